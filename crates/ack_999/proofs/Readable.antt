@@ -10,7 +10,7 @@ use Rattle.hub_kinds.specs.Words.{set_code_text, group_code_text, verdict_text, 
 use Rattle.ack_999.specs.declared.totals.Totals.{Totals}
 use Rattle.ack_999.specs.Faults.{fault_segments}
 use Rattle.ack_999.specs.Group.{totals_of, received_sets}
-use Rattle.x12_write.specs.Number.{padded_number}
+use Rattle.x12_write.specs.Number.{set_number}
 use Rattle.ack_999.specs.ReadBack.{IsQuotable, IsQuotableFault}
 use Rattle.x12_write.specs.Undivided.{CanDivide, IsUndivided}
 use Rattle.ack_999.specs.Report.{head_segments, convention_text, set_segments, shows_sets, set_loops, listed_sets, accepted_sets}
@@ -33,7 +33,7 @@ readable-head : (d : Delims) (g : GroupAnswer) (n : ℕ) → CanDivide d → IsU
     → IsUndivided d g.control → IsUndivided d g.version → All (IsReadable d) (head_segments g n)
 readable-head d g n can functional_id control version =
     let P : List ℕ → Type 0 = IsUndivided d in
-    let st : List (List ℕ) = codes "999" ∷ padded_number 4 n ∷ codes "005010X231" ∷ [] in
+    let st : List (List ℕ) = codes "999" ∷ set_number n ∷ codes "005010X231" ∷ [] in
     let ak1 : List (List ℕ) = g.functional_id ∷ g.control ∷ g.version ∷ [] in
     let st_all : All P st =
     All-from_recursion P st (
@@ -104,7 +104,7 @@ readable-response d g t can =
 readable-trailer : (d : Delims) (count n : ℕ) → CanDivide d → IsReadable d (set_trailer count n)
 readable-trailer d count n can =
     let P : List ℕ → Type 0 = IsUndivided d in
-    let se : List (List ℕ) = decimal count ∷ padded_number 4 n ∷ [] in
+    let se : List (List ℕ) = decimal count ∷ set_number n ∷ [] in
     readable d can (codes "SE") se (omega arith) refl refl
     (All-from_recursion P se (decimal-undivided d can count, (padded_number-undivided d can 4 n, tt)))
 

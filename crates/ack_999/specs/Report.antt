@@ -11,14 +11,14 @@ use Rattle.hub_kinds.specs.declared.set_codes.GroupCode.TheVariants as code
 use Rattle.hub_kinds.specs.Words.{set_code_text, group_code_text, verdict_text, group_verdict_text, number_of, is_word}
 use Rattle.ack_999.specs.declared.totals.Totals.{Totals}
 use Rattle.x12_write.specs.Segment.{WrittenSegment, segment, segments_text}
-use Rattle.x12_write.specs.Number.{padded_number}
+use Rattle.x12_write.specs.Number.{set_number}
 use Rattle.ack_999.specs.Faults.{fault_segments}
 use Rattle.ack_999.specs.Group.{totals_of, received_sets, set_segment_count}
 
 -- ST and AK1
 abbrev pub head_segments : GroupAnswer → ℕ → List WrittenSegment
 head_segments g n =
-    segment (codes "ST") (codes "999" ∷ padded_number 4 n ∷ codes "005010X231" ∷ [])
+    segment (codes "ST") (codes "999" ∷ set_number n ∷ codes "005010X231" ∷ [])
     ∷ segment (codes "AK1") (g.functional_id ∷ g.control ∷ g.version ∷ [])
     ∷ []
 
@@ -68,7 +68,7 @@ group_response g t =
     ∷ map group_code_text g.codes)
 
 abbrev pub set_trailer : ℕ → ℕ → WrittenSegment
-set_trailer count n = segment (codes "SE") (decimal count ∷ padded_number 4 n ∷ [])
+set_trailer count n = segment (codes "SE") (decimal count ∷ set_number n ∷ [])
 
 -- the segments of the acknowledgment of a group; SE01 is how many they are, from ST to SE
 abbrev pub segments_999 : Delims → GroupAnswer → List SetAnswer → ℕ → List WrittenSegment

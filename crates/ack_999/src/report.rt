@@ -6,7 +6,6 @@ ghost use Rattle.hub_kinds.specs.Words.{is_word};
 ghost use Rattle.ack_999.specs.Group.{IsCountable};
 ghost use Rattle.x12_write.specs.Segment.{segments_text};
 ghost use Rattle.ack_999.specs.ReadBack.{ReadsBack};
-ghost use Rattle.x12_write.specs.Number.{padded_number};
 ghost use Rattle.x12_write.specs.Extends.{Extends};
 
 use crate::counts::{accepted_sets, listed_sets, segment_count, shows_sets, totals_of};
@@ -85,7 +84,7 @@ fn append_set_header(out: &mut Vec<u8>, delims: &Delims, n: u32) -> Result<(), N
     let separator = delims.element;
     let end = delims.terminator;
     out.extend_from_slice(&[b'S', b'T', separator, b'9', b'9', b'9', separator])?;
-    out.extend_from_slice(set_control_number(n).bytes())?;
+    out.extend_from_slice(PaddedNumber::of_set(n).bytes())?;
     out.extend_from_slice(&[
         separator, b'0', b'0', b'5', b'0', b'1', b'0', b'X', b'2', b'3', b'1', end,
     ])?;
@@ -235,18 +234,11 @@ fn append_set_trailer(
     ensures kept { Extends out.old.items out.new.items }
 {
     let mut digits = Buffer::new();
-    let number = set_control_number(n);
+    let number = PaddedNumber::of_set(n);
     append_segment(
         out,
         delims,
         b"SE",
         &[digits.format(count).as_bytes(), number.bytes()],
     )
-}
-
-/// ST02 and SE02.
-fn set_control_number(n: u32) -> PaddedNumber
-    ensures { result ≡ padded_number 4 n }
-{
-    PaddedNumber::new(n, 4)
 }

@@ -3,10 +3,13 @@ use hub_kinds::ElementCode;
 
 impl Worded for ElementCode {
     ghost use Rattle.ack_lines.specs.Elements.{element_codes, element_words};
+    ghost use Rattle.std.proofs.Common.{rules};
 
     ghost words = { element_words };
 
     ghost listed = { element_codes };
+
+    ghost found = { Prim.search rules };
 
     fn words(self) -> &'static str {
         match self {
@@ -30,27 +33,5 @@ impl Worded for ElementCode {
             ElementCode::PatternFailure => "HL01, HL02 or HL04 doesn't fit the tree of HLs",
             ElementCode::DependentNotUsedPresent => "a dependency forbids it",
         }
-    }
-
-    fn listed() -> &'static [ElementCode] {
-        &[
-            ElementCode::RequiredMissing,
-            ElementCode::ConditionalMissing,
-            ElementCode::TooManyElements,
-            ElementCode::TooShort,
-            ElementCode::TooLong,
-            ElementCode::InvalidCharacter,
-            ElementCode::InvalidCode,
-            ElementCode::InvalidDate,
-            ElementCode::InvalidTime,
-            ElementCode::ExclusionViolated,
-            ElementCode::TooManyRepetitions,
-            ElementCode::TooManyComponents,
-            ElementCode::CodeNotUsed,
-            ElementCode::DependentMissing,
-            ElementCode::NotUsedPresent,
-            ElementCode::PatternFailure,
-            ElementCode::DependentNotUsedPresent,
-        ]
     }
 }

@@ -3,10 +3,13 @@ use hub_kinds::{GroupCode, GroupVerdict};
 
 impl Worded for GroupVerdict {
     ghost use Rattle.ack_lines.specs.Groups.{group_verdicts, group_verdict_words};
+    ghost use Rattle.std.proofs.Common.{rules};
 
     ghost words = { group_verdict_words };
 
     ghost listed = { group_verdicts };
+
+    ghost found = { Prim.search rules };
 
     fn words(self) -> &'static str {
         match self {
@@ -16,23 +19,17 @@ impl Worded for GroupVerdict {
             GroupVerdict::Rejected => "rejected",
         }
     }
-
-    fn listed() -> &'static [GroupVerdict] {
-        &[
-            GroupVerdict::Accepted,
-            GroupVerdict::AcceptedWithErrors,
-            GroupVerdict::PartlyAccepted,
-            GroupVerdict::Rejected,
-        ]
-    }
 }
 
 impl Worded for GroupCode {
     ghost use Rattle.ack_lines.specs.Groups.{group_codes, group_words};
+    ghost use Rattle.std.proofs.Common.{rules};
 
     ghost words = { group_words };
 
     ghost listed = { group_codes };
+
+    ghost found = { Prim.search rules };
 
     fn words(self) -> &'static str {
         match self {
@@ -44,16 +41,5 @@ impl Worded for GroupCode {
             GroupCode::ControlNumberNotUnique =>
                 "an earlier group of the interchange has the same GS06",
         }
-    }
-
-    fn listed() -> &'static [GroupCode] {
-        &[
-            GroupCode::NotSupported,
-            GroupCode::VersionNotSupported,
-            GroupCode::TrailerMissing,
-            GroupCode::ControlNumbersDiffer,
-            GroupCode::SetCountWrong,
-            GroupCode::ControlNumberNotUnique,
-        ]
     }
 }

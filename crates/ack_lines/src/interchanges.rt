@@ -48,20 +48,19 @@ impl Code for InterchangeVerdict {
 
 impl Worded for InterchangeVerdict {
     ghost use Rattle.ack_lines.specs.Interchanges.{interchange_verdicts, interchange_words};
+    ghost use Rattle.std.proofs.Common.{rules};
 
     ghost words = { interchange_words };
 
     ghost listed = { interchange_verdicts };
+
+    ghost found = { Prim.search rules };
 
     fn words(self) -> &'static str {
         match self {
             InterchangeVerdict::Accepted => "accepted",
             InterchangeVerdict::Refused => "refused",
         }
-    }
-
-    fn listed() -> &'static [InterchangeVerdict] {
-        &[InterchangeVerdict::Accepted, InterchangeVerdict::Refused]
     }
 }
 
@@ -97,10 +96,13 @@ impl Code for NoteCode {
 
 impl Worded for NoteCode {
     ghost use Rattle.ack_lines.specs.Interchanges.{note_codes, note_words};
+    ghost use Rattle.std.proofs.Common.{rules};
 
     ghost words = { note_words };
 
     ghost listed = { note_codes };
+
+    ghost found = { Prim.search rules };
 
     fn words(self) -> &'static str {
         match self {
@@ -112,17 +114,5 @@ impl Worded for NoteCode {
             NoteCode::HeaderInvalid => "a bad GS or ST",
             NoteCode::Duplicate => "an earlier interchange of the night has its number",
         }
-    }
-
-    fn listed() -> &'static [NoteCode] {
-        &[
-            NoteCode::NotRefused,
-            NoteCode::ControlNumbersDiffer,
-            NoteCode::GroupCountWrong,
-            NoteCode::SegmentMisplaced,
-            NoteCode::TrailerMissing,
-            NoteCode::HeaderInvalid,
-            NoteCode::Duplicate,
-        ]
     }
 }

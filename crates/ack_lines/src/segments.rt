@@ -3,10 +3,13 @@ use hub_kinds::SegmentCode;
 
 impl Worded for SegmentCode {
     ghost use Rattle.ack_lines.specs.Segments.{segment_codes, segment_words};
+    ghost use Rattle.std.proofs.Common.{rules};
 
     ghost words = { segment_words };
 
     ghost listed = { segment_codes };
+
+    ghost found = { Prim.search rules };
 
     fn words(self) -> &'static str {
         match self {
@@ -25,23 +28,5 @@ impl Worded for SegmentCode {
             SegmentCode::SegmentTooSeldom => "comes less often than its minimum",
             SegmentCode::DependentNotUsedPresent => "a dependency forbids the segment",
         }
-    }
-
-    fn listed() -> &'static [SegmentCode] {
-        &[
-            SegmentCode::UnrecognizedSegment,
-            SegmentCode::UnexpectedSegment,
-            SegmentCode::RequiredSegmentMissing,
-            SegmentCode::LoopTooOften,
-            SegmentCode::SegmentTooOften,
-            SegmentCode::NotInSet,
-            SegmentCode::OutOfSequence,
-            SegmentCode::ElementErrors,
-            SegmentCode::NotUsedPresent,
-            SegmentCode::DependentMissing,
-            SegmentCode::LoopTooSeldom,
-            SegmentCode::SegmentTooSeldom,
-            SegmentCode::DependentNotUsedPresent,
-        ]
     }
 }

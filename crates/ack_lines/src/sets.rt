@@ -3,10 +3,13 @@ use hub_kinds::{SetCode, Verdict};
 
 impl Worded for Verdict {
     ghost use Rattle.ack_lines.specs.Sets.{set_verdicts, set_verdict_words};
+    ghost use Rattle.std.proofs.Common.{rules};
 
     ghost words = { set_verdict_words };
 
     ghost listed = { set_verdicts };
+
+    ghost found = { Prim.search rules };
 
     fn words(self) -> &'static str {
         match self {
@@ -15,22 +18,17 @@ impl Worded for Verdict {
             Verdict::Rejected => "rejected",
         }
     }
-
-    fn listed() -> &'static [Verdict] {
-        &[
-            Verdict::Accepted,
-            Verdict::AcceptedWithErrors,
-            Verdict::Rejected,
-        ]
-    }
 }
 
 impl Worded for SetCode {
     ghost use Rattle.ack_lines.specs.Sets.{set_codes, set_words};
+    ghost use Rattle.std.proofs.Common.{rules};
 
     ghost words = { set_words };
 
     ghost listed = { set_codes };
+
+    ghost found = { Prim.search rules };
 
     fn words(self) -> &'static str {
         match self {
@@ -47,19 +45,5 @@ impl Worded for SetCode {
                 "an earlier set of the group has the same ST02, byte for byte",
             SetCode::ConventionNotSupported => "ST03 isn't the guide's convention",
         }
-    }
-
-    fn listed() -> &'static [SetCode] {
-        &[
-            SetCode::SegmentsInError,
-            SetCode::ImplementationSegmentsInError,
-            SetCode::NotSupported,
-            SetCode::TrailerMissing,
-            SetCode::ControlNumbersDiffer,
-            SetCode::SegmentCountWrong,
-            SetCode::ControlNumberInvalid,
-            SetCode::ControlNumberNotUnique,
-            SetCode::ConventionNotSupported,
-        ]
     }
 }

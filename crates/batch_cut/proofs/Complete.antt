@@ -25,12 +25,12 @@ record Completes (b more : List ℕ) : Type 0 where
   size : length (b ++ more) ≡ 106
 
 -- what is begun, part by part
-record IsBegun (b : List ℕ) : Type 0 where
-  short : length b < 106
-  front : take 3 b ≡ take (length b) (codes "ISA")
-  parts : (leb (length b) 3 || (are_delims_begun b && are_fields_begun b 16)) ≡ true
+pub record IsBegun (b : List ℕ) : Type 0 where
+  pub short : length b < 106
+  pub front : take 3 b ≡ take (length b) (codes "ISA")
+  pub parts : (leb (length b) 3 || (are_delims_begun b && are_fields_begun b 16)) ≡ true
 
-begun_parts : (b : List ℕ) → is_begun b ≡ true → IsBegun b
+pub begun_parts : (b : List ℕ) → is_begun b ≡ true → IsBegun b
 unfolding is_begun
 begun_parts b is =
     let isa : Bool = bytes_eq (take 3 b) (take (length b) (codes "ISA")) in
@@ -62,7 +62,6 @@ far_done b bytes far begun =
       delims = parts.0;
       fields = parts.1;
       low = found.1.low;
-      high = omega arith;
       absent = found.1.absent;
     } in
     let ys : List ℕ = rest b t is_open in

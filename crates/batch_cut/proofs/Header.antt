@@ -5,8 +5,8 @@ use Rattle.std.specs.Prelude.{codes, slice_index}
 use Rattle.std.specs.List.{list_all}
 use Rattle.std.specs.Str.{bytes_eq}
 use Rattle.std.specs.Cmp.Lexicographic.{bytes_decides}
-use Rattle.std.proofs.lemmas.Bool.{agree_below_at, and_from, and_parts, both_ways, cases_Bool, cases_lt, eq-eqb, eqb-true, false≢true}
-use Rattle.std.proofs.lemmas.Bool.{leb-true, ne_eqb, not-true, or_cases, true_from_ne_false}
+use Rattle.std.proofs.lemmas.Bool.{and_from, and_parts, both_ways, cases_Bool, cases_lt, eq-eqb, eqb-true, false≢true}
+use Rattle.std.proofs.lemmas.Bool.{leb-true, lt-leb, ne_eqb, not-true, or_cases, true_from_ne_false}
 use Rattle.std.proofs.lemmas.List.{drop_more}
 use Rattle.std.proofs.lemmas.List.Folds.{list_all_at}
 use Rattle.x12_bytes.specs.Bytes.{may_separate, may_terminate}
@@ -19,13 +19,26 @@ use Rattle.batch_cut.proofs.Sample.{is_plain_field, are_plain_fields, all_plain,
 use Rattle.batch_cut.proofs.Sample.{made_length, made_separator, made_field}
 
 -- no letter, digit or space is that high
-pub high_terminates : (t : ℕ) → 128 ≤ t → t < 256 → may_terminate t ≡ true
-high_terminates t low high =
-    let both : (leb t 127 || may_terminate t) ≡ true = agree_below_at (λ b. leb b 127 || may_terminate b) (λ _. true) 256 t refl high in
-    elim (or_cases (leb t 127) (may_terminate t) both) [
-      | inl small ↦ absurd (omega (arith, leb-true t 127 small, low))
-      | inr holds ↦ holds
-    ]
+pub high_terminates : (t : ℕ) → 128 ≤ t → may_terminate t ≡ true
+high_terminates t low =
+    ap (λ (x : Bool). tested x (leb t 90) (leb t 122) (nat_eq t 32)) (lt-leb t 57 (omega (arith, low)))
+    ∙ ap (λ (y : Bool). tested false y (leb t 122) (nat_eq t 32)) (lt-leb t 90 (omega (arith, low)))
+    ∙ ap (λ (z : Bool). tested false false z (nat_eq t 32)) (lt-leb t 122 (omega (arith, low)))
+    ∙ ap (tested false false false) (ne_eqb t 32 (λ is. omega (arith, is, low)))
+    ∙ by_tests (leb 48 t) (leb 65 t) (leb 97 t)
+  where
+    tested : (x y z s : Bool) → Bool
+    tested x y z s = not (((leb 48 t && x) || (leb 65 t && y) || (leb 97 t && z)) || s)
+
+    by_tests : (a b c : Bool) → not (((a && false) || (b && false) || (c && false)) || false) ≡ true
+    by_tests true true true = refl
+    by_tests true true false = refl
+    by_tests true false true = refl
+    by_tests true false false = refl
+    by_tests false true true = refl
+    by_tests false true false = refl
+    by_tests false false true = refl
+    by_tests false false false = refl
 
 pub absent_at : (t : ℕ) (xs : List ℕ) (k : ℕ) → k < length xs → is_absent t xs ≡ true → nat_eq (get_or xs k 0) t ≡ false
 absent_at t xs k lt all = not-true (nat_eq (get_or xs k 0) t) (true_from_ne_false (not (nat_eq (get_or xs k 0) t))
@@ -88,7 +101,6 @@ pub record IsOpen (b : List ℕ) (t : ℕ) : Type 0 where
   pub delims : are_delims_begun b ≡ true
   pub fields : are_fields_begun b 16 ≡ true
   pub low : 128 ≤ t
-  pub high : t < 256
   pub absent : is_absent t b ≡ true
 
 module _ (b : List ℕ) (t : ℕ) (is_open : IsOpen b t) where
@@ -152,7 +164,7 @@ module _ (b : List ℕ) (t : ℕ) (is_open : IsOpen b t) where
   delims_done =
       ap (λ (x : ℕ). delims_test x (component_separator_of h) (terminator_of h)) element
       ∙ ap (λ (x : ℕ). delims_test e (component_separator_of h) x) terminator
-      ∙ delims_from e (component_separator_of h) t beside element_ends element_allowed (high_terminates t is_open.low is_open.high)
+      ∙ delims_from e (component_separator_of h) t beside element_ends element_allowed (high_terminates t is_open.low)
 
   abbrev may_stand : ℕ → Bool
   may_stand x = not (nat_eq x e) && not (nat_eq x t)

@@ -5,8 +5,8 @@ ghost use Rattle.x12_bytes.specs.Bytes.{is_letter_or_digit, is_line_end, may_sep
 ghost use Rattle.x12_bytes.specs.Header.{element_separator_of};
 ghost use Rattle.batch_cut.specs.Begun.{are_delims_begun, are_fields_begun, is_begun, is_field_begun, may_begin};
 
-use crate::layout::{field_so_far, separator_place};
-use x12_bytes::HEADER_LEN;
+use crate::layout::field_so_far;
+use x12_bytes::{HEADER_LEN, separator_place};
 
 /// Whether a header may still turn out to begin at an offset of what is read of a text, by bytes that aren't read yet.
 pub fn may_begin(read: &[u8], at: usize) -> bool

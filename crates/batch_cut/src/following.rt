@@ -6,10 +6,10 @@ ghost use Rattle.x12_segs.specs.Words.{seg_at, view_of, kind_of};
 ghost use Rattle.env_index.specs.Words.{ends_interchange};
 ghost use Rattle.batch_cut.specs.Open.{IsOpen};
 ghost use Rattle.batch_cut.specs.Passing.{AreSearched};
-ghost use Rattle.batch_cut.specs.Steps.{Follows, Steps, Walks};
+ghost use Rattle.batch_cut.specs.Steps.{Steps, Walks};
 
 use crate::begin::may_begin;
-use crate::passing::{Searched, not_searched, pass_over, search};
+use crate::passing::{Searched, pass_over, search};
 use memchr::memchr;
 use x12_bytes::{Delims, read_header};
 use x12_segs::{Kind, SegView, kind_of};
@@ -36,15 +36,7 @@ pub(crate) enum Step {
     Wait(OpenPart),
 }
 
-/// What is known of an interchange's end.
-pub enum Followed {
-    /// It ends at this offset.
-    End(usize),
-    /// It isn't whole by what is read.
-    Wait(OpenPart),
-}
-
-/// What a step finds, with how far was searched.
+/// What is known of an interchange's end, with how far was searched.
 pub(crate) enum Walked {
     /// It ends at this offset.
     End(usize, Searched),
@@ -164,18 +156,8 @@ fn look_at(read: &[u8], delims: Delims, part: OpenPart) -> Step
     step_at(read, delims, part, lead)
 }
 
-/// Goes through the parts of an interchange that is open, from one on, as far as they are read.
-pub fn follow(read: &[u8], delims: Delims, part: OpenPart) -> Followed
-    requires { IsOpen read.now delims.terminator part.at part.lead part.seen }
-    ensures { Follows read.now delims part.at result }
-{
-    match walk(read, delims, part, not_searched()) {
-        Walked::End(end, _) => Followed::End(end),
-        Walked::Wait(wait) => Followed::Wait(wait),
-    }
-}
-
-/// What a step finds by `searched`, what was searched before: parts that can't end it are passed over together.
+/// Goes through the parts of an interchange that is open, from `part` on, as far as they are read. `searched` is what was searched
+/// before: parts that can't end the interchange are passed over together.
 pub(crate) fn walk(read: &[u8], delims: Delims, part: OpenPart, searched: Searched) -> Walked
     requires open_part { IsOpen read.now delims.terminator part.at part.lead part.seen }
     requires searched { AreSearched read.now searched }

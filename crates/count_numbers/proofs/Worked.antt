@@ -3,7 +3,7 @@ use Rattle.std.specs.Prelude.{◌≡◌, [], ◌∷◌, refl, codes, ℕ, List, 
 use Rattle.hub_kinds.specs.declared.counters.Counters.{Counters}
 use Rattle.count_numbers.specs.declared.entry.Entry.{Entry}
 use Rattle.count_numbers.specs.declared.entry.PartnerEntry.{PartnerEntry}
-use Rattle.count_numbers.specs.Counted.{acknowledgments_in, groups_in, numbers_behind, delivered_set_count}
+use Rattle.count_numbers.specs.Counted.{acknowledgments_in, groups_in, numbers_behind}
 use Rattle.count_numbers.specs.Tallies.{all_joined, entries_for, tallies_between, tallies_of}
 use Rattle.count_numbers.specs.TallyPieces.{tally_between}
 use Rattle.count_numbers.specs.declared.run.RunKey.{RunKey}
@@ -237,9 +237,6 @@ acknowledgments_counted = refl
 -- of three acknowledgments two have a group
 groups_counted : groups_in (Acknowledged true ∷ Acknowledged false ∷ Delivered (key 0) ∷ Acknowledged true ∷ []) ≡ 2
 groups_counted = refl
-
-sets_counted : delivered_set_count some_entries ≡ 4
-sets_counted = refl
 
 -- two acknowledgments, one of them with a group, and four sets, three at most in an interchange: the interchanges 8 and 9 are
 -- delivered, with the groups 1 and 2 and the group 3

@@ -23,10 +23,6 @@ groups_in [] = 0
 groups_in (Acknowledged has_group ∷ es) = groups_in_one has_group + groups_in es
 groups_in (Delivered key ∷ es) = groups_in es
 
--- how many delivered sets there are
-abbrev pub delivered_set_count : List Entry → ℕ
-delivered_set_count es = length (keys_of es)
-
 -- a partner's numbers where that many acknowledgments are its, that many of them with a group, and the delivered sets with these keys
 abbrev pub numbers_behind : Counters → (cap acknowledgments groups : ℕ) → List RunKey → PartnerNumbers
 numbers_behind counters cap acknowledgments groups keys = record {

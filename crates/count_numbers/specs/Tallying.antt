@@ -1,10 +1,10 @@
 -- Tallies join like the stretches that they are of.
-use Rattle.std.proofs.Common.{◌≡◌, ℕ, Bool, List, [], ◌∷◌, ◌++◌, refl, sym, ap, ◌∙◌, arith}
+use Rattle.std.proofs.Common.{◌≡◌, ℕ, List, [], ◌∷◌, ◌++◌, refl, sym, ap, ◌∙◌, arith}
 use Rattle.count_numbers.specs.declared.run.RunKey.{RunKey}
 use Rattle.count_numbers.specs.declared.run.Run.{Run}
 use Rattle.count_numbers.specs.Runs.{together, single, join_runs, runs_of}
 use Rattle.count_numbers.specs.Tally.{Entry, Acknowledged, Delivered, PartnerTally, acknowledged_groups, acknowledgment_count}
-use Rattle.count_numbers.specs.Tally.{groups_in_one, joined, keys_of, tally_of, HasCounts, IsCount, PieceLaws}
+use Rattle.count_numbers.specs.Tally.{groups_in_one, joined, keys_of, tally_of, IsCount, PieceLaws}
 use Rattle.count_numbers.specs.Keys.{together_assoc}
 use Rattle.count_numbers.specs.Joining.{join_nil, join_assoc, runs_append}
 
@@ -66,20 +66,6 @@ laws = record {
   associative = tallies_assoc;
   halves = tally_append;
 }
-
--- the groups of one acknowledgment alone
-one_in_row : (has_group : Bool) (n : ℕ) → together n (together (groups_in_one has_group) 0) ≡ together n (groups_in_one has_group)
-one_in_row has_group n = omega arith
-
--- one acknowledgment more
-pub acknowledgment_more : (acknowledgments n groups g : ℕ) (rs : List Run) (has_group : Bool) (es : List Entry)
-    → tally acknowledgments groups rs ≡ tally_of es → n ≡ together acknowledgments 1 → g ≡ together groups (groups_in_one has_group)
-    → tally n g rs ≡ tally_of (es ++ Acknowledged has_group ∷ [])
-acknowledgment_more acknowledgments n groups g rs has_group es was is are =
-    same_tally _ _ _ _ _ _ (is ∙ ap (λ (t : PartnerTally). together t.acknowledgments 1) was)
-    (are ∙ ap (λ (t : PartnerTally). together t.groups (groups_in_one has_group)) was ∙ sym (one_in_row has_group (acknowledged_groups es)))
-    (ap (λ (t : PartnerTally). t.runs) was ∙ sym (join_nil (runs_of (keys_of es))))
-    ∙ sym (tally_append es (Acknowledged has_group ∷ []))
 
 -- one delivered set more
 pub set_more : (acknowledgments groups : ℕ) (rs new : List Run) (run : Run) (key : RunKey) (es : List Entry)

@@ -14,7 +14,7 @@ use Rattle.guide_tree.specs.declared.slot.Relation.TheVariants as relation
 use Rattle.guide_tree.specs.Words.{Segment}
 use Rattle.hub_kinds.specs.declared.codes.ElementCode.TheVariants as ik403
 use Rattle.x12_bytes.specs.declared.delims.Delims.{Delims}
-use Rattle.elem_rules.specs.ElementFaults.{IsElementFault, wrong_at, copy_in, hierarchy_copy}
+use Rattle.elem_rules.specs.ElementFaults.{IsElementFault, wrong_at, copy_in}
 use Rattle.elem_rules.specs.Values.{value_fault}
 use Rattle.moment.specs.Calendar.{is_date, is_time}
 
@@ -65,8 +65,8 @@ nothing_copied = (refl, refl, refl)
 
 element_copied : (copy_in delims parts 2 2 ik403.TooManyElements ≡ parts) × (copy_in delims parts 2 2 ik403.ExclusionViolated ≡ parts)
     × (copy_in delims parts 2 2 ik403.PatternFailure ≡ parts) × (copy_in delims parts 2 2 ik403.DependentNotUsedPresent ≡ parts)
-    × (copy_in delims parts 0 0 ik403.NotUsedPresent ≡ parts) × (hierarchy_copy parts ≡ parts)
-element_copied = (refl, refl, refl, refl, refl, refl)
+    × (copy_in delims parts 0 0 ik403.NotUsedPresent ≡ parts)
+element_copied = (refl, refl, refl, refl, refl)
 
 occurrence_copied : copy_in delims parts 2 2 ik403.TooManyRepetitions ≡ codes "EF>GH"
 unfolding delims

@@ -58,7 +58,7 @@ same_parts n a b c m k l o e some =
     let v : n ≡ m = omega (arith, j, s, t, u) in
     (v, s, t, u)
 
-same_code : (x y : List ℕ) → code_number x ≡ code_number y → (code_number x ≡ 0 → ⊥) → x ≡ y
+pub same_code : (x y : List ℕ) → code_number x ≡ code_number y → (code_number x ≡ 0 → ⊥) → x ≡ y
 same_code [] y e some = absurd (some refl)
 same_code (a ∷ b ∷ c ∷ d ∷ rest) y e some = absurd (some refl)
 same_code (a ∷ []) [] e some = absurd (some e)

@@ -50,10 +50,6 @@ copy_in delims element component repetition ik403.NotUsedPresent =
 copy_in delims element component repetition ik403.PatternFailure = element
 copy_in delims element component repetition ik403.DependentNotUsedPresent = element
 
--- the text that a fault of the hierarchy speaks of is the whole element, also by the code of a value that isn't used
-abbrev pub hierarchy_copy : List ℕ → List ℕ
-hierarchy_copy element = element
-
 -- the fault with a code at a place: the reference number is that of the row there, if any
 abbrev pub fault_at : Delims → Segment → Slot → (element component repetition : ℕ) → ElementCode → ElemFault
 fault_at delims s slot element component repetition code = record {

@@ -211,7 +211,7 @@ fn holds(bits: u64, condition: &Condition) -> bool
     }
 }
 
-pub(crate) fn hold_all(bits: u64, conditions: &[Condition]) -> bool
+fn hold_all(bits: u64, conditions: &[Condition]) -> bool
     ensures { result ≡ list_all (λ c. holds (is_set bits) c.relation c.positions) conditions.now }
 {
     conditions.iter().all(|condition| holds(bits, condition))

@@ -45,7 +45,7 @@ pub struct FlatRow {
 
 /// A length and three bytes in one number.
 #[inline(always)]
-fn packed(length: u8, a: u8, b: u8, c: u8) -> u32
+pub fn packed(length: u8, a: u8, b: u8, c: u8) -> u32
     ensures { result ≡ packed length a b c }
 {
     u32::from(length) * 0x0100_0000

@@ -189,7 +189,9 @@ pub(crate) fn all_hold(conditions: &[FlatCondition], bits: u64) -> bool
         .all(|condition| holds_flat(condition, bits))
 }
 
-/// The look of `is_clean_at`, by the flat rows and conditions of the slot: `true` only where no element has a fault.
+/// A quick look at a segment by the flat rows and conditions of its slot: `true` only if no element has a fault. The element
+/// separators are at these offsets of the segment's bytes. It has no component and no repetition separator, and all its bytes
+/// are characters from space to tilde.
 pub fn is_clean_flat(seg: &SegView, slot: &Slot, flat: &FlatSlot, separators: &[usize]) -> bool
     requires bounded { IsTrue (is_slot_bounded slot.now) }
     requires conditions { IsTrue (list_all (is_condition_of slot.now) slot.now.conditions) }

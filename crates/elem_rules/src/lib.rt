@@ -6,10 +6,10 @@
 //!   once, rising by element, component, repetition and code, for any bytes, delimiters and number of elements. A fault
 //!   shows the reference number of the row at its place and, whole, the text that its code speaks of;
 //! - `check_segment_at` gives the same faults of a segment without an odd byte, whose element separators were found before;
-//! - `is_clean_at` says of a segment whose element separators were found before that it is clean only where it has no fault;
-//! - `is_clean_flat` says the same by the rows and conditions of the slot as few numbers, which `SlotTables` has for each slot of
-//!   a guide. Of a value that a flat row is sure of the row finds no fault, and where all masks say so all conditions hold. A
-//!   value of which nothing is said is judged by the row itself;
+//! - `is_clean_flat` says of a segment whose element separators were found before that it is clean only if it has no fault. It
+//!   goes by the rows and conditions of the slot as few numbers, which `SlotTables` has for each slot of a guide. Of a value
+//!   that a flat row is sure of the row finds no fault, and where all masks say so all conditions hold. A value of which
+//!   nothing is said is judged by the row itself;
 //! - `is_empty` and `reference_at`, by which crates above speak of elements: whether a text counts as empty, and the reference
 //!   number of the row at a position.
 //!
@@ -57,8 +57,7 @@ pub use conditions::reference_at;
 pub use divided::is_empty;
 pub use exact::check_segment_at;
 pub use flat_condition::FlatCondition;
-pub use flat_row::{FlatKind, FlatRow, code_number};
+pub use flat_row::{FlatKind, FlatRow, code_number, packed};
 pub use flat_slot::{FlatSlot, is_clean_flat};
-pub use marked::is_clean_at;
 pub use moment::At;
 pub use slot_tables::SlotTables;

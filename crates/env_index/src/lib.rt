@@ -6,8 +6,6 @@
 //! - `read_interchange` answers an interchange exactly where a header begins at the offset; its end
 //!   is that of the definition, and its groups, sets, their ends, counts and acknowledgments are those
 //!   of the one tree of envelopes that its segments derive;
-//! - `read_lone` answers an interchange exactly where the text is one, with nothing but CR, LF and
-//!   space around it;
 //! - `index_plain` answers the index of a text: its one chain of interchanges, each with its envelopes and the least of
 //!   its faults 1 to 7, and the count of bytes outside; a text has one index (`index_is_one`);
 //! - `index_of` answers the same interchanges from the headers and the marks of the text's pieces, before they are judged: marks
@@ -54,7 +52,6 @@ mod interchange;
 mod judging;
 mod known;
 mod laws;
-mod lone;
 mod mark_parts;
 mod next;
 mod placed;
@@ -79,6 +76,5 @@ pub use laws::{
     chain_is_one, end_is_least, envelope_is_mapped, envelope_is_of_kinds, envelope_is_one,
     envelope_is_there, index_is_one, judged_is_index, places_are_index_places, sets_stand_alone,
 };
-pub use lone::read_lone;
 pub use plain::index_plain;
 pub use read::read_interchange;

@@ -9,10 +9,15 @@ use Rattle.batch_cut.proofs.ForAbove.{head_kept}
 use Rattle.night_equal.proofs.ForAbove.{heads}
 use Rattle.stream_read.specs.Held.{HeldValue}
 use Rattle.gather_files.specs.Causes.{cause_by, cause_of}
-use Rattle.gather_files.specs.Gathering.{IsBegun, IsPassed, IsSetAside, nothing_passed}
+use Rattle.gather_files.specs.Gathering.{IsBegun, IsPassed, IsSetAside}
 use Rattle.gather_files.specs.Lead.{led}
 use Rattle.gather_files.specs.declared.gather.Passing.{Passing}
 use Rattle.gather_files.proofs.Leading.{led_kept}
+
+-- nothing is passed on yet
+abbrev nothing_passed : (terminator : ℕ) → Passing
+nothing_passed terminator =
+    record { terminator = terminator; scout = record { at = 0; inside = None }; interchanges = 0; written = 0; seen = 0; ends = 0 }
 
 nothing_written : (a : Option (List ℕ)) → Appends a a []
 nothing_written None = tt

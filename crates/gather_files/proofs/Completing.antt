@@ -1,21 +1,17 @@
 -- What may begin a header can be completed to one, and nothing else can.
-use Rattle.std.proofs.Common.{◌≡◌, ℕ, suc, ◌+◌, ◌-◌, ◌<◌, ◌≤◌, List, [], ◌∷◌, ◌++◌, Bool, true, false, ◌&&◌, ◌||◌, not, leb, ltb, nat_eq}
+use Rattle.std.proofs.Common.{◌≡◌, ℕ, suc, ◌+◌, ◌-◌, ◌<◌, ◌≤◌, List, [], ◌∷◌, ◌++◌, true, false, ◌&&◌, not, leb, nat_eq}
 use Rattle.std.proofs.Common.{length, take, drop, refl, sym, ap, ◌∙◌, arith, inl, inr}
 use Rattle.std.specs.Prelude.{◌↔◌, codes}
-use Rattle.std.specs.Str.{bytes_eq}
-use Rattle.std.specs.Cmp.Lexicographic.{bytes_decides}
-use Rattle.std.proofs.lemmas.Bool.{and_from, and_parts, both_ways, cases_Bool, cases_lt, le-leb, leb-true, ltb-true, ne_eqb, or_cases}
+use Rattle.std.proofs.lemmas.Bool.{and_from, and_parts, both_ways, cases_Bool, cases_lt, le-leb, leb-true, ne_eqb, or_cases}
 use Rattle.std.proofs.lemmas.Bool.{true_from_ne_false}
 use Rattle.std.proofs.lemmas.List.{append_assoc, drop-append-le, length-append, length-drop, take-append-drop, take_all, take-take}
 use Rattle.x12_bytes.specs.Header.{header_at}
 use Rattle.x12_bytes.specs.HeaderTest.{is_head, is_header}
 use Rattle.batch_cut.specs.Begun.{are_fields_begun, are_delims_begun, is_begun, may_begin}
-use Rattle.batch_cut.proofs.ForAbove.{none_behind}
+use Rattle.batch_cut.proofs.ForAbove.{IsBegun, IsOpen, begun_parts, header_done, header_size, is_absent, mixed, mixed_is, none_behind, rest}
 use Rattle.night_equal.proofs.ForAbove.{heads}
 use Rattle.env_index.proofs.ForAbove.{head_within}
 use Rattle.gather_files.specs.Unfinished.{MayBegin}
-use Rattle.gather_files.proofs.Mixed.{mixed, mixed_is}
-use Rattle.gather_files.proofs.Header.{IsOpen, header_done, header_size, is_absent, rest}
 
 -- a number above each of these, and above each letter, digit and space
 above : List ℕ → ℕ
@@ -38,25 +34,6 @@ above_absent (x ∷ xs) t le =
 record Completes (b more : List ℕ) : Type 0 where
   header : is_header (b ++ more) ≡ true
   size : length (b ++ more) ≡ 106
-
--- what is begun, part by part
-record IsBegun (b : List ℕ) : Type 0 where
-  short : length b < 106
-  front : take 3 b ≡ take (length b) (codes "ISA")
-  parts : (leb (length b) 3 || (are_delims_begun b && are_fields_begun b 16)) ≡ true
-
-begun_parts : (b : List ℕ) → is_begun b ≡ true → IsBegun b
-unfolding is_begun
-begun_parts b is =
-    let isa : Bool = bytes_eq (take 3 b) (take (length b) (codes "ISA")) in
-    let begun : Bool = leb (length b) 3 || (are_delims_begun b && are_fields_begun b 16) in
-    let first = and_parts (ltb (length b) 106) (isa && begun) is in
-    let second = and_parts isa begun first.1 in
-    record {
-      short = ltb-true (length b) 106 first.0;
-      front = (bytes_decides (take 3 b) (take (length b) (codes "ISA"))).0 second.0;
-      parts = second.1;
-    }
 
 far_done : (b : List ℕ) → 3 < length b → is_begun b ≡ true → (more : List ℕ) × Completes b more
 far_done b far begun =

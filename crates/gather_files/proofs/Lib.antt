@@ -10,14 +10,12 @@ pub mod EndsOn
 pub mod Finishing
 pub mod ForAbove
 pub mod Gathering
-pub mod Header
 pub mod Joining
 pub mod Keeps
 pub mod Lacking
 pub mod LastFound
 pub mod LastPart
 pub mod Leading
-pub mod Mixed
 pub mod Onward
 pub mod OpenEnds
 pub mod Opening
@@ -27,8 +25,8 @@ pub mod Passing
 pub mod Past
 pub mod Reaching
 pub mod Said
-pub mod Sample
 pub mod Sealing
 pub mod Untouched
 pub mod Walks
+pub mod Widths
 mod Worked

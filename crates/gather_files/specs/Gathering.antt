@@ -1,5 +1,5 @@
 -- X12.5, interchange: a file that is put after what was gathered so far (own).
-use Rattle.std.specs.Prelude.{◌≡◌, ℕ, ◌≤◌, ◌⊎◌, ◌||◌, Bool, true, false, List, ◌++◌, ◌-◌, length, take, Option, None, IfSome}
+use Rattle.std.specs.Prelude.{◌≡◌, ℕ, ◌≤◌, ◌⊎◌, ◌||◌, Bool, true, false, List, ◌++◌, ◌-◌, length, take, Option, IfSome}
 use Rattle.std.specs.List.{All, suffix_len}
 use Rattle.std.specs.Io.KnownBytes.{Appends, Consumes, IsAtEnd}
 use Rattle.x12_bytes.specs.Bytes.{is_line_end}
@@ -127,11 +127,6 @@ pub record IsPassed (first now was is : Option (List ℕ)) (held : HeldValue) (p
   pub whole : IsWholeBefore front (kept_of held.bytes passing) passing.interchanges
   pub start : passing.scout.at ≡ 0
   pub stands : Stands (kept_of held.bytes passing) 0 passing.scout.inside
-
--- nothing is passed on yet
-abbrev pub nothing_passed : (terminator : ℕ) → Passing
-nothing_passed terminator =
-    record { terminator = terminator; scout = record { at = 0; inside = None }; interchanges = 0; written = 0; seen = 0; ends = 0 }
 
 -- writing fails as the output, and closing if memory is refused
 abbrev pub IsOfWriting : GatherFault → Type 0

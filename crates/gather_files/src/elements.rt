@@ -65,24 +65,7 @@ fn separator_place(k: usize) -> usize
     ensures value { result ≡ separator_at k }
     ensures bound { result ≤ 103 }
 {
-    match k {
-        1 => 3,
-        2 => 6,
-        3 => 17,
-        4 => 20,
-        5 => 31,
-        6 => 34,
-        7 => 50,
-        8 => 53,
-        9 => 69,
-        10 => 76,
-        11 => 81,
-        12 => 83,
-        13 => 89,
-        14 => 99,
-        15 => 101,
-        _ => 103,
-    }
+    x12_bytes::separator_place(k)
 }
 
 /// How wide element `k` must be.
@@ -92,22 +75,5 @@ pub(crate) fn width_of(k: usize) -> usize
     ensures value { result ≡ width_of k }
     ensures bound { result ≤ 15 }
 {
-    match k {
-        1 => 2,
-        2 => 10,
-        3 => 2,
-        4 => 10,
-        5 => 2,
-        6 => 15,
-        7 => 2,
-        8 => 15,
-        9 => 6,
-        10 => 4,
-        11 => 1,
-        12 => 5,
-        13 => 9,
-        14 => 1,
-        15 => 1,
-        _ => 1,
-    }
+    x12_bytes::width_of(k)
 }

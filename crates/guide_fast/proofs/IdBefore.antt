@@ -4,7 +4,8 @@ use Rattle.std.specs.List.{slice_split, onto_first}
 use Rattle.std.proofs.lemmas.Bool.{ne_eqb}
 use Rattle.std.proofs.lemmas.Bool.Decides.{Decides-eqb}
 use Rattle.x12_segs.specs.Words.{parts, part_or_empty}
-use Rattle.guide_fast.specs.IdNumber.{id_number, packed}
+use Rattle.elem_rules.specs.Flat.{packed}
+use Rattle.guide_fast.specs.IdNumber.{id_number}
 
 abbrev before : (separator : ℕ) → List ℕ → List ℕ
 before e [] = []

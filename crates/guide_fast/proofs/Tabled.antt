@@ -1,9 +1,9 @@
 -- The table of a loop's nodes, at its number.
 use Rattle.std.proofs.Common.{◌≡◌, ◌<◌, ◌≤◌, ℕ, zero, suc, length, get_or, arith, List, [], ◌∷◌, refl, sym, ap, subst, ◌∙◌}
-use Rattle.std.proofs.Common.{Option, Some, None, option_map, true}
+use Rattle.std.proofs.Common.{Option, Some, None, true}
 use Rattle.std.specs.Prelude.{slice_get, IfSome, MatchOption, Vec}
 use Rattle.std.specs.List.{HoldsAt}
-use Rattle.std.proofs.lemmas.Option.{slice_get-get_or, slice_get-map}
+use Rattle.std.proofs.lemmas.Option.{slice_get-get_or}
 use Rattle.std.specs.declared.alloc.Global.{Global}
 use Rattle.guide_tree.specs.declared.node.Node.{Node, the_lemmas}
 use Rattle.guide_tree.specs.declared.node.Node as node
@@ -91,19 +91,6 @@ top_has rows tables top e n f =
           (subst (λ (us : Trees). HasTables (tables_of us) us) (sym m) (has_tables ts))),
       same,
     )
-
-pub numbered_tables : (rows : GuideRows) → guide_of rows ≡ numbered_guide rows
-    → HasTables (tables_of (nodes_view rows.nodes.items)) (nodes_view rows.nodes.items)
-numbered_tables rows n =
-    let m : nodes_view rows.nodes.items ≡ numbered 1 (nodes_view rows.nodes.items) = ap (λ (g : GuideTree). g.nodes) n in
-    subst (λ (us : Trees). HasTables (tables_of us) us) (sym m) (has_tables (nodes_view rows.nodes.items))
-
-pub looked : (tables : List (List Node)) (k : ℕ) (r : Option (Bor (List Node))) → IsLook tables k r
-    → option_map (λ c. nodes_view c.now) r ≡ slice_get (trees_in tables) k
-looked tables k None e = sym (slice_get-map nodes_view tables k ∙ ap (option_map nodes_view) (slice_get_past tables k e.1))
-looked tables k (Some c) e =
-    sym (slice_get-map nodes_view tables k
-    ∙ ap (option_map nodes_view) (slice_get-get_or tables k c.now e.1.0 ∙ sym (ap Some e.0)))
 
 -- each node of a parent has its tables
 pub tables_at : (tables : List Trees) (ns : List Node) (k : ℕ) (d : Node) → HasTables tables (nodes_view ns) → k < length ns

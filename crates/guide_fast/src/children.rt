@@ -10,7 +10,7 @@ ghost use Rattle.loop_match.specs.Steps.{turned};
 
 use crate::counts::{count_between, needed_counts};
 use crate::first_pick::{Asked, FirstPick, asked_id, begin_picks};
-use crate::id_number::{begin_numbers, number_of};
+use crate::id_number::begin_numbers;
 use crate::index::{TextIndex, places_from};
 use crate::keys::{begin_key, nodes_reach};
 use crate::start::{start_asked, start_picked};
@@ -118,17 +118,7 @@ impl<'g> Children<'g> {
         count_between(self.needed.as_slice(), from, to)
     }
 
-    /// The first child from `from` on whose start the segment fits, as a turn.
-    pub fn start_from(&self, from: usize, seg: &SegView) -> Option<Turn<'g>>
-        requires { from ≤ length self.now }
-        ensures turn { option_map (turned []) result ≡ fit_starts (elements_of seg.now) from (nodes_view (drop from self.now)) }
-        ensures depth { IfSome result (λ t. t.depth ≡ 0) }
-        ensures uses { IfSome result (λ t. t.use_no ≡ 0) }
-    {
-        self.start_numbered(from, number_of(seg), seg)
-    }
-
-    /// The start of a child from `from` on, where the number of the segment's id is known.
+    /// The first child from `from` on whose start the segment fits, as a turn. The number of the segment's id is `number`.
     #[inline]
     pub(crate) fn start_numbered(&self, from: usize, number: u32, seg: &SegView) -> Option<Turn<'g>>
         requires number { HasNumber (elements_of seg.now) number }
@@ -144,18 +134,7 @@ impl<'g> Children<'g> {
         start_looked_up(nodes, picks, &self.index, self.reach, from, number, seg)
     }
 
-    /// The first child after one on whose start the segment fits, as a turn.
-    pub fn start_behind(&self, child: usize, seg: &SegView) -> Option<Turn<'g>>
-        requires { child < length self.now }
-        ensures turn { option_map (turned []) result
-            ≡ fit_starts (elements_of seg.now) (child + 1) (nodes_view (drop (child + 1) self.now)) }
-        ensures depth { IfSome result (λ t. t.depth ≡ 0) }
-        ensures uses { IfSome result (λ t. t.use_no ≡ 0) }
-    {
-        self.start_numbered_behind(child, number_of(seg), seg)
-    }
-
-    /// The start of a later child, where the number of the segment's id is known.
+    /// The first child after `child` whose start the segment fits, as a turn. The number of the segment's id is `number`.
     #[inline]
     pub(crate) fn start_numbered_behind(
         &self,

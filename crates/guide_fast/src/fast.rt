@@ -44,7 +44,7 @@ impl<'g> Model for FastGuide<'g> {
 }
 
 impl<'g> FastGuide<'g> {
-    ghost use Rattle.std.specs.Prelude.{◌≡◌, ◌+◌, ◌<◌, ◌≤◌, ◌^◌, ℕ, [], length, option_map, slice_get, IfOk, IfSome};
+    ghost use Rattle.std.specs.Prelude.{◌≡◌, ◌+◌, ◌<◌, ◌≤◌, ◌^◌, ℕ, [], length, option_map, IfOk, IfSome};
     ghost use Rattle.std.specs.List.{AllByRecursion};
     ghost use Rattle.x12_segs.specs.Words.{elements_of};
     ghost use Rattle.guide_tree.specs.Words.{nodes_view, fit_behind, guide_of, step_faults, end_faults, stray_code};
@@ -52,7 +52,6 @@ impl<'g> FastGuide<'g> {
     ghost use Rattle.elem_rules.specs.Flat.{IsFlatSlot};
     ghost use Rattle.elem_rules.specs.NodeSlots.{IsSlotOf};
     ghost use Rattle.guide_fast.specs.Silent.{are_none};
-    ghost use Rattle.guide_fast.specs.Tables.{HasTables, tables_of};
     ghost use Rattle.guide_fast.specs.Ahead.{IsStation, StandsAt};
     ghost use Rattle.std.specs.Bool.{OnTrue};
 
@@ -173,17 +172,6 @@ impl<'g> FastGuide<'g> {
         ensures { result ≡ stray_code (guide_of self.now) (elements_of seg.now) }
     {
         self.strays.code(seg)
-    }
-
-    /// The nodes of the loop with a number, and at 0 the guide's own; a segment's number has none. Each loop's nodes are at its
-    /// number.
-    pub fn table(&self, number: usize) -> Option<&Children<'g>>
-        ensures value { option_map (λ c. nodes_view c.now) result
-            ≡ slice_get (tables_of (nodes_view self.entry.now.nodes.items)) number }
-        ensures numbered { HasTables (tables_of (nodes_view self.entry.now.nodes.items)) (nodes_view self.entry.now.nodes.items) }
-    {
-        let _accepted = self.guide.rows();
-        self.tables.as_slice().get(number)
     }
 
     /// The rows and conditions of one of the guide's slots as few numbers.

@@ -1,32 +1,19 @@
 ghost use Rattle.std.specs.Prelude.{◌≡◌, slice_index_or, IfOk};
 ghost use Rattle.x12_segs.specs.Words.{elements_of, parts, part_or_empty};
-ghost use Rattle.guide_fast.specs.IdNumber.{packed, id_number, HasNumber, begin_numbers};
+ghost use Rattle.guide_fast.specs.IdNumber.{id_number, HasNumber, begin_numbers};
 
+use elem_rules::{code_number, packed};
 use guide_tree::Node;
 use hub_kinds::NoMemory;
 use loop_match::first_id;
 use std::alloc::Global;
 use x12_segs::SegView;
 
-/// A length and three bytes in one number.
-#[inline]
-fn packed(length: u8, a: u8, b: u8, c: u8) -> u32
-    ensures { result ≡ packed length a b c }
-{
-    u32::from(length) * 0x0100_0000
-        + (u32::from(c) * 0x0001_0000 + (u32::from(b) * 0x0100 + u32::from(a)))
-}
-
 /// The number of an id of one to three bytes, by which it is distinguished from every other; of any other id 0.
 pub(crate) fn id_number(id: &[u8]) -> u32
     ensures { result ≡ id_number id.now }
 {
-    match id {
-        [a] => packed(1, *a, 0, 0),
-        [a, b] => packed(2, *a, *b, 0),
-        [a, b, c] => packed(3, *a, *b, *c),
-        _ => 0,
-    }
+    code_number(id)
 }
 
 /// The byte at a place of a text; where none is there, another.

@@ -3,9 +3,8 @@
 //!
 //! Proved: `FastGuide::turn_from` gives the place that `fit_behind` defines, which is the one that `loop_match` gives, whatever is
 //! there: the innermost loop's candidate first, and of equal ids the first that the segment fits. `FastGuide::stray_code` gives the code
-//! of a segment without a place, as `stray_code` defines it. `FastGuide::table` gives the nodes of a loop by its number;
-//! `Children::start_from` the first of them from one on whose start a segment fits, and `Children::needed_between` how many of some are
-//! needed, which is how many are reported where none of them comes.
+//! of a segment without a place, as `stray_code` defines it. `Children::needed_between` gives how many of some nodes are needed, which
+//! is how many are reported if none of them comes.
 //! `place_all_fast` gives what `place_all` of `loop_match` gives, by these.
 //! `FastGuide::next_turn` gives the same place, by the turns that are kept of the last place's slot, and says of some that surely nothing
 //! is reported at them.

@@ -1,7 +1,7 @@
 -- A text stops exactly where it writes no row.
 use Rattle.std.proofs.Common.{◌≡◌, ℕ, suc, ◌+◌, List, [], ◌∷◌, Option, Some, None, Result, Ok, Err}
-use Rattle.std.proofs.Common.{Bool, true, false, ◌&&◌, ◌||◌, take, drop}
-use Rattle.std.proofs.Common.{option_map, refl, sym, ap, ◌∙◌, codes, if◌then◌else◌, cond, arith}
+use Rattle.std.proofs.Common.{Bool, true, false, take, drop}
+use Rattle.std.proofs.Common.{option_map, refl, sym, ap, ◌∙◌, codes, if◌then◌else◌, arith}
 use Rattle.std.specs.Prelude.{is_ok, is_some, is_none}
 use Rattle.std.specs.List.{list_all, prefix_len, position_or_len}
 use Rattle.std.specs.Str.{bytes_eq}
@@ -10,7 +10,6 @@ use Rattle.guide_tree.specs.declared.element.Element.{Element}
 use Rattle.guide_tree.specs.declared.element.Component.{Component}
 use Rattle.guide_tree.specs.declared.element.Component.TheVariants as component
 use Rattle.guide_tree.specs.declared.element.Element.TheVariants as element
-use Rattle.guide_tree.specs.declared.element.ElementType.{ElementType}
 use Rattle.guide_tree.specs.declared.element.Requirement.{Requirement}
 use Rattle.guide_toml.specs.declared.stops.ElementStop.{ElementStop}
 use Rattle.guide_toml.specs.declared.stops.Halt.{Halt}
@@ -20,7 +19,6 @@ use Rattle.guide_toml.specs.declared.element_text.Measure.{Measure}
 use Rattle.guide_toml.specs.Tokens.{token_groups, is_code, is_semicolon, tokens_of}
 use Rattle.guide_toml.specs.Counts.{count_of}
 use Rattle.guide_toml.specs.ElementTexts.{Tokens, codes_of, code_list, component_of, components_of_tokens, element_in, element_of_text}
-use Rattle.guide_toml.specs.ElementTexts.{element_of_tokens}
 use Rattle.guide_toml.specs.ElementTexts.{behind_first, components_behind, composite_of, measure_of, next_token}
 use Rattle.guide_toml.specs.ElementTexts.{no_more, reference_of, requirement_of}
 use Rattle.guide_toml.specs.ElementTexts.{row_of_tokens, simple_of, take_repeat, take_wide, type_of, unused_codes}

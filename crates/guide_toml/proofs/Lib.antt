@@ -13,3 +13,4 @@ pub mod WrittenElements
 pub mod References
 pub mod ElementStops
 pub mod StopSteps
+pub mod FaultCodes

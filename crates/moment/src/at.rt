@@ -1,5 +1,5 @@
-ghost use Rattle.std.specs.Prelude.{◌≡◌, ◌↔◌, ℕ, List, IsSome, is_some, IfSome, length};
-ghost use Rattle.moment.specs.Moment.{IsMoment, date_of, short_date_of, time_of};
+ghost use Rattle.std.specs.Prelude.{◌≡◌, ◌↔◌, ℕ, List, IsSome, is_some, IfSome};
+ghost use Rattle.moment.specs.Moment.{IsMoment};
 ghost use Rattle.moment.specs.Calendar.{is_moment};
 
 use crate::calendar::{is_date, is_time};
@@ -47,30 +47,6 @@ impl At {
         ensures moment { IsMoment result.now }
     {
         self.digits.as_slice()
-    }
-
-    /// The day as CCYYMMDD, as GS04 has it.
-    pub fn date(&self) -> &[u8]
-        ensures value { result.now ≡ date_of self.now }
-        ensures len { length result.now ≡ 8 }
-    {
-        &self.digits[..8]
-    }
-
-    /// The day as YYMMDD, as ISA09 has it.
-    pub fn short_date(&self) -> &[u8]
-        ensures value { result.now ≡ short_date_of self.now }
-        ensures len { length result.now ≡ 6 }
-    {
-        &self.digits[2..8]
-    }
-
-    /// The time of day as HHMM, as ISA10 and GS05 have it.
-    pub fn time(&self) -> &[u8]
-        ensures value { result.now ≡ time_of self.now }
-        ensures len { length result.now ≡ 4 }
-    {
-        &self.digits[8..12]
     }
 }
 

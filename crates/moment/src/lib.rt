@@ -3,7 +3,6 @@
 //! Proved:
 //! - `At::read` answers a moment exactly for the twelve digits CCYYMMDDHHMM of a day and a time that exist, which is where the
 //!   first eight are a date and the last four a time;
-//! - `date`, `short_date` and `time` are a moment's CCYYMMDD, YYMMDD and HHMM;
 //! - `is_digits`, `is_date` and `is_time` say whether a text is digits alone, a date, a time of day.
 //!
 //! Source: X12.6, date and time data element types (DT, TM). `jiff` says which days exist. Dates of six digits are own.
@@ -13,7 +12,7 @@
 //! ```rust
 //! match At::read(b"202603011530") {
 //!     None => Err("no moment".into()),
-//!     Some(at) => expect_parts(rt.alloc(), &at),
+//!     Some(at) => expect_digits(rt.alloc(), &at),
 //! }
 //! ```
 #![tactic(auto)]

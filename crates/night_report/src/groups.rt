@@ -15,8 +15,8 @@ use hub_kinds::{GroupVerdict, NoMemory};
 use judged_text::{GroupStanding, JudgedInterchange, PlacedSet, is_fa};
 use partner_setup::Setup;
 
-/// The verdict on group `n` (AK901).
-fn verdict_at(standings: &[GroupStanding], n: usize) -> GroupVerdict
+/// The verdict on group `n` of an interchange with these `standings` (999 guide, AK901); rejected if it has no such group.
+pub fn verdict_at(standings: &[GroupStanding], n: usize) -> GroupVerdict
     ensures { result ≡ (standing_at standings.now n).verdict }
 {
     match standings.get(n) {

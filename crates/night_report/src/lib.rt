@@ -6,6 +6,7 @@
 //! - `ReportLines` continues from text to text: `append` reports more interchanges, numbered on, at the offsets of the whole, and `close`
 //!   ends with all that was counted;
 //! - `LineWriters` write the same by one thread, or by many: each half of the interchanges by half of them;
+//! - `partner_name` and `sender_name` are the names of a partner and of a sender, `verdict_at` the verdict on a group;
 //! - `is_clean` is false exactly where a line of the report shows something refused or held, or its last line doesn't
 //!   say that nothing is outside interchanges.
 //!
@@ -27,6 +28,8 @@ mod totals;
 mod writers;
 
 pub use clean::is_clean;
+pub use groups::verdict_at;
+pub use named::{partner_name, sender_name};
 pub use report::report_text;
 pub use told::ReportLines;
 pub use writers::LineWriters;

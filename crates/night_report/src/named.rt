@@ -3,8 +3,8 @@ ghost use Rattle.night_report.specs.Report as report;
 
 use partner_setup::Setup;
 
-/// A partner's name by its place in the setup; `?` where there is none.
-pub(crate) fn partner_name(setup: &Setup, place: usize) -> &[u8]
+/// The name of the partner at `place` of `setup`; `?` if there is none.
+pub fn partner_name(setup: &Setup, place: usize) -> &[u8]
     ensures { result.now ≡ report.partner_name setup.entry.now place }
 {
     match setup.partner_at(place) {
@@ -13,8 +13,8 @@ pub(crate) fn partner_name(setup: &Setup, place: usize) -> &[u8]
     }
 }
 
-/// A sender's name; `?` where it is unknown.
-pub(crate) fn sender_name<'s>(setup: &'s Setup, sender: Option<usize>) -> &'s [u8]
+/// The name of `sender`, a partner by its place in `setup`; `?` if the sender is unknown.
+pub fn sender_name<'s>(setup: &'s Setup, sender: Option<usize>) -> &'s [u8]
     ensures { result.now ≡ report.sender_name setup.entry.now sender }
 {
     match sender {

@@ -5,20 +5,22 @@ use crate::ids::is_name_byte;
 use crate::rows::PartnerRow;
 use x12_bytes::Delims;
 
-fn may_delimit(byte: u8) -> bool
+/// Whether `byte` may delimit elements, components or repetitions: 0x1C to 0x1F, or 0x21 to 0x7E except letters, digits, `-`, `.` and `_`.
+pub fn may_delimit(byte: u8) -> bool
     ensures { result ≡ faults.may_delimit byte }
 {
     (28 <= byte && byte <= 31) || (33 <= byte && byte <= 126 && !is_name_byte(byte))
 }
 
-fn may_end(byte: u8) -> bool
+/// Whether `byte` may end a segment: a byte that may delimit, CR or LF.
+pub fn may_end(byte: u8) -> bool
     ensures { result ≡ faults.may_end byte }
 {
     may_delimit(byte) || byte == b'\r' || byte == b'\n'
 }
 
-/// The one byte of a text.
-fn byte_of(text: &[u8]) -> Option<u8>
+/// The byte of `text`; none if `text` isn't one byte.
+pub fn byte_of(text: &[u8]) -> Option<u8>
     ensures { result ≡ faults.byte_of text.now }
 {
     match text {

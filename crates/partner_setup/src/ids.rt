@@ -25,7 +25,7 @@ fn are_inner(text: &[u8]) -> bool
     text.iter().all(|byte| is_inner(*byte))
 }
 
-/// Whether an id or a code has that many to that many bytes, and its form.
+/// Whether `text` is an id or a code of `least` to `most` bytes: letters, digits, `-`, `.`, `_` and, inside, spaces.
 pub fn is_id(text: &[u8], least: usize, most: usize) -> bool
     ensures { result ≡ faults.is_id least most text.now }
 {

@@ -232,7 +232,8 @@ fn bad_route(
     Ok(lesser(wrong, twin))
 }
 
-fn is_counter(number: u32) -> bool
+/// Whether `number` is a control number: 1 to 999,999,999 (X12.5, ISA13; X12.6, GS06).
+pub fn is_counter(number: u32) -> bool
     ensures { result ≡ faults.is_counter number }
 {
     1 <= number && number <= 999_999_999
@@ -275,17 +276,18 @@ fn bad_counter(
     Ok(lesser(wrong, twin))
 }
 
-fn is_capped(partner: &PartnerRow) -> bool
-    ensures { result ≡ faults.is_cap partner.now.cap }
+/// Whether `cap` is the cap of a partner: 1 to 99,999.
+pub fn is_cap(cap: u32) -> bool
+    ensures { result ≡ faults.is_cap cap }
 {
-    1 <= partner.cap && partner.cap <= 99_999
+    1 <= cap && cap <= 99_999
 }
 
 fn bad_cap(partners: &[PartnerRow]) -> Option<usize>
     ensures { result ≡ faults.bad_cap partners.now }
 {
     for i in 0..partners.len() {
-        if !is_capped(&partners[i]) {
+        if !is_cap(partners[i].cap) {
             return Some(i);
         }
     }

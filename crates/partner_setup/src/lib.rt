@@ -9,6 +9,7 @@
 //! - every setup is sound: each partner's cap, counters, delimiters and names are what they must be, and each route leads to
 //!   its partners, to none of them twice;
 //! - `Setup::envelope_to` is the envelope from the hub to a partner, and its interchange header can be read again;
+//! - `is_id`, `byte_of`, `may_delimit`, `may_end`, `is_counter` and `is_cap` are exactly the tests of a row's texts and numbers;
 //! - `Setup::sender_of`, `route_of`, `has_group`, `has_version` and `guide_of` look up the rows;
 //! - `Setup::counters_text` is the counters file of the next night, in version 2; version 1 is still read.
 //!
@@ -44,6 +45,9 @@ mod twice;
 mod values;
 
 pub use counters_file::read_counters;
+pub use delimiters::{byte_of, may_delimit, may_end};
+pub use ids::is_id;
+pub use judge::{is_cap, is_counter};
 pub use partner::{Partner, Route};
 pub use receivers::MOST_RECEIVERS;
 pub use rows::{CounterRow, CounterRows, HubRow, PartnerRow, RouteRow, SetupRows, Usage};

@@ -1,10 +1,8 @@
 //! What is wrong with the delimiters of a partner.
 ghost use Rattle.std.specs.Prelude.{◌≡◌};
-ghost use Rattle.partner_setup.specs.SetupFaults as faults;
 ghost use Rattle.refusal_words.specs.Delimiters as delimiters;
 
-use crate::id_words::is_name_byte;
-use partner_setup::PartnerRow;
+use partner_setup::{PartnerRow, byte_of, may_delimit, may_end};
 
 /// A delimiter (X12.5).
 #[derive(Clone, Copy)]
@@ -23,34 +21,12 @@ pub enum DelimiterCause {
     Same(Delimiter, Delimiter, u8),
 }
 
-fn may_delimit(byte: u8) -> bool
-    ensures { result ≡ faults.may_delimit byte }
-{
-    (28 <= byte && byte <= 31) || (33 <= byte && byte <= 126 && !is_name_byte(byte))
-}
-
-fn may_end(byte: u8) -> bool
-    ensures { result ≡ faults.may_end byte }
-{
-    may_delimit(byte) || byte == b'\r' || byte == b'\n'
-}
-
 fn may_be(delimiter: Delimiter, byte: u8) -> bool
     ensures { result ≡ delimiters.may_be delimiter byte }
 {
     match delimiter {
         Delimiter::Element | Delimiter::Component | Delimiter::Repetition => may_delimit(byte),
         Delimiter::Terminator => may_end(byte),
-    }
-}
-
-/// The byte of a text of one byte; none of any other.
-pub fn byte_of(text: &[u8]) -> Option<u8>
-    ensures { result ≡ faults.byte_of text.now }
-{
-    match text {
-        [byte] => Some(*byte),
-        _ => None,
     }
 }
 

@@ -5,9 +5,9 @@ ghost use Rattle.refusal_words.specs.Places.{in_place};
 
 use crate::appended::{append, append_in_place, append_quoted};
 use crate::delimiter_words::key_words;
-use crate::delimiters::{Delimiter, byte_of};
+use crate::delimiters::Delimiter;
 use hub_kinds::{Items, NoMemory, Text};
-use partner_setup::PartnerRow;
+use partner_setup::{PartnerRow, byte_of};
 use std::alloc::Global;
 
 /// Marks that names, addresses and descriptions often hold.

@@ -1,46 +1,9 @@
 ghost use Rattle.std.specs.Prelude.{◌≡◌, ◌++◌, OnOk};
-ghost use Rattle.std.specs.List.{list_all};
-ghost use Rattle.partner_setup.specs.SetupFaults as faults;
 ghost use Rattle.refusal_words.specs.IdWords as words;
 
 use crate::appended::{append, append_quoted};
 use hub_kinds::{NoMemory, is_alphanumeric};
-use partner_setup::{HubRow, PartnerRow};
-
-/// Letters, digits, `-`, `.` and `_`.
-pub fn is_name_byte(byte: u8) -> bool
-    ensures { result ≡ faults.is_name_byte byte }
-{
-    byte.is_ascii_alphanumeric() || byte == b'-' || byte == b'.' || byte == b'_'
-}
-
-fn is_inner(byte: u8) -> bool
-    ensures { result ≡ faults.is_inner byte }
-{
-    is_name_byte(byte) || byte == b' '
-}
-
-fn are_inner(text: &[u8]) -> bool
-    ensures { result ≡ list_all faults.is_inner text.now }
-{
-    text.iter().all(|byte| is_inner(*byte))
-}
-
-/// Whether a text has the form of an id, with this many to this many bytes.
-pub fn is_id(text: &[u8], least: usize, most: usize) -> bool
-    ensures { result ≡ faults.is_id least most text.now }
-{
-    match (text.first(), text.last()) {
-        (Some(first), Some(last)) => {
-            least <= text.len()
-                && text.len() <= most
-                && are_inner(text)
-                && is_name_byte(*first)
-                && is_name_byte(*last)
-        }
-        _ => false,
-    }
-}
+use partner_setup::{HubRow, PartnerRow, is_id};
 
 fn append_form(out: &mut Vec<u8>, kind: &[u8], text: &[u8], said: &[u8]) -> Result<(), NoMemory>
     ensures { OnOk result (out.new.items ≡ out.old.items ++ words.form_words kind.now text.now said.now) }

@@ -1,13 +1,12 @@
 ghost use Rattle.std.specs.Prelude.{◌≡◌, ◌<◌, ◌++◌, length, option_map, OnOk};
-ghost use Rattle.partner_setup.specs.SetupFaults as faults;
 ghost use Rattle.refusal_words.specs.RowWords as words;
 
 use crate::appended::{append, append_one, append_quoted};
-use crate::id_words::{append_code, is_id};
+use crate::id_words::append_code;
 use crate::kept_rows::KeptRows;
 use crate::named::{first_unknown, is_named, next_named, next_sender};
 use hub_kinds::{NoMemory, Text, contains_text};
-use partner_setup::{CounterRow, PartnerRow, RouteRow};
+use partner_setup::{CounterRow, PartnerRow, RouteRow, is_counter, is_id};
 
 /// Adds the later row that has the same, or what else is wrong.
 fn append_next(
@@ -148,13 +147,6 @@ pub fn append_route(
         return append_targets(out, kept, place, route);
     }
     append_code(out, route.code.as_slice())
-}
-
-/// Whether a number is a control number: 1 to 999,999,999 (X12.5, ISA13; X12.6, GS06).
-pub fn is_counter(number: u32) -> bool
-    ensures { result ≡ faults.is_counter number }
-{
-    1 <= number && number <= 999_999_999
 }
 
 /// Adds that the number at this key is out of 1 to 999,999,999. The only error is out of memory.

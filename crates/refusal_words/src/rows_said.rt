@@ -1,6 +1,5 @@
 //! What is wrong with each row of a setup or of counters, looked at by itself.
 ghost use Rattle.std.specs.Prelude.{◌≡◌, ◌++◌, IfOk, OnOk, map, option_map};
-ghost use Rattle.partner_setup.specs.SetupFaults.{is_cap};
 ghost use Rattle.refusal_words.specs.DelimiterWords.{delimiters_words};
 ghost use Rattle.refusal_words.specs.IdWords.{code_words, hub_words, partner_words};
 ghost use Rattle.refusal_words.specs.Named.{partner_name};
@@ -10,11 +9,11 @@ ghost use Rattle.refusal_words.specs.RowsSaid as said;
 use crate::appended::append_quoted;
 use crate::delimiter_words::append_delimiters;
 use crate::id_words::{append_code, append_hub_ids, append_partner_ids};
-use crate::row_words::{append_cap, append_number_of, first_again, is_counter};
+use crate::row_words::{append_cap, append_number_of, first_again};
 use crate::sentences::{place_of, push_sentence};
 use guide_tree::Codes;
 use hub_kinds::{Items, NoMemory, Text, copy_text};
-use partner_setup::{CounterRow, PartnerRow, RouteRow, SetupRows};
+use partner_setup::{CounterRow, PartnerRow, RouteRow, SetupRows, is_cap, is_counter};
 use std::alloc::Global;
 
 fn delimiters_said(alloc: Global, partner: &PartnerRow) -> Result<Vec<u8>, NoMemory>
@@ -31,12 +30,6 @@ fn ids_said(alloc: Global, partner: &PartnerRow) -> Result<Vec<u8>, NoMemory>
     let mut text = Vec::new(alloc);
     append_partner_ids(&mut text, partner)?;
     Ok(text)
-}
-
-fn is_cap(cap: u32) -> bool
-    ensures { result ≡ is_cap cap }
-{
-    1 <= cap && cap <= 99_999
 }
 
 fn cap_said(alloc: Global, partner: &PartnerRow) -> Result<Vec<u8>, NoMemory>

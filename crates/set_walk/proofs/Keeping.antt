@@ -27,7 +27,7 @@ use Rattle.depend_check.specs.Kept.{IsTargetKept, AreDependenciesKept}
 use Rattle.set_walk.specs.declared.kept.SlottedSeg.{SlottedSeg}
 use Rattle.set_walk.specs.declared.kept.Kept.{Kept}
 use Rattle.set_walk.specs.Kept.{Slotted, slotted_view, segs_in, given_by, segment_in, is_hierarchical, is_labelled, AreNamesKept, IsKept}
-use Rattle.set_walk.specs.Depends.{lacks, has, target_by, kept_by, some_given, some_in}
+use Rattle.set_walk.specs.Depends.{lacks, has, target_by, kept_by, some_in}
 
 kept_view : {X Y : Type 0} (b : Bool) (v : X → Y) (x : X) (xs : List X) (ys : List Y) → map v xs ≡ ys
     → map v (cond b (x ∷ xs) xs) ≡ cond b (v x ∷ ys) ys
@@ -51,6 +51,9 @@ hierarchy_of g d k xs kept whole =
     subst (IsHierarchyWhole g.hl d)
     (sym (map-map v slotted_view k.hls.items) ∙ ap (map v) kept.hls ∙ filter_view is_hl v xs
     ∙ ap hl_segments (sym (map-map elements_of (λ (y : Slotted). y.0) xs))) whole
+
+abbrev some_given : List Given → (Given → Bool) → Bool
+some_given xs test = list_any test xs
 
 -- a test that holds of segments with labelled slots alone holds of some that was kept where it holds of some
 some_kept : (items : List SlottedSeg) (xs : List Slotted) → map slotted_view items ≡ filter is_labelled xs → (test : Given → Bool)

@@ -29,9 +29,6 @@ target_by some delims label kind.Ban element =
 abbrev pub kept_by : ((Given → Bool) → Bool) → Delims → Dependency → Bool
 kept_by some delims d = not (some (triggers d)) || target_by some delims d.target d.kind d.element
 
-abbrev pub some_given : List Given → (Given → Bool) → Bool
-some_given xs test = list_any test xs
-
 abbrev pub some_in : List SlottedSeg → (Given → Bool) → Bool
 some_in xs test = list_any (λ x. test (given_in x)) xs
 

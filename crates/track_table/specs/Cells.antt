@@ -1,5 +1,5 @@
 -- The fields of a row (own): of an interchange (X12.5), of a group and of a set (X12.6), and of what became of it.
-use Rattle.std.specs.Prelude.{ℕ, ◌+◌, List, [], ◌∷◌, ◌++◌, Option, Some, None, take, drop, slice_get, slice_index_or, codes, decimal, map}
+use Rattle.std.specs.Prelude.{ℕ, ◌+◌, List, [], ◌∷◌, ◌++◌, Option, Some, None, take, drop, slice_index_or, codes, decimal, map}
 use Rattle.std.specs.Prelude.{if◌then◌else◌}
 use Rattle.x12_bytes.specs.Header.{field_of}
 use Rattle.x12_segs.specs.Words.{element_of}
@@ -9,26 +9,17 @@ use Rattle.hub_kinds.specs.declared.interchange.InterchangeFault.{InterchangeFau
 use Rattle.hub_kinds.specs.declared.set_codes.GroupCode.{GroupCode}
 use Rattle.hub_kinds.specs.declared.set_codes.GroupVerdict.{GroupVerdict}
 use Rattle.env_index.specs.Words.{GroupEntry}
-use Rattle.partner_setup.specs.declared.partner.Partner.{Partner}
 use Rattle.partner_setup.specs.Setup.{SetupValue}
 use Rattle.judged_text.specs.Answered.{ta1_note}
 use Rattle.judged_text.specs.Judged.{JudgedValue, PlacedValue, is_fa, segments_in, verdict_by_standing}
 use Rattle.track_table.specs.declared.notes.GroupNotes.{GroupNotes}
 use Rattle.track_table.specs.declared.notes.SetNotes.{SetNotes}
 use Rattle.set_documents.specs.Documents.{DocumentValue, document_number}
+pub use Rattle.night_report.specs.Report.{name_by, sender_name}
 pub use Rattle.track_definition.specs.Columns.{column_names, no_set_cells, plain_end, spaced_words}
 use Rattle.track_table.specs.declared.hindrance.Hindrance.{Hindrance}
 use Rattle.track_table.specs.declared.mailed.Mailed.{Mailed}
 use Rattle.track_table.specs.declared.limits.TheConstants.{MOST_SHOWN}
-
--- the name of a partner by its place in the setup, and that of a sender; of none where there isn't a partner
-abbrev pub name_by : Option Partner → List ℕ
-name_by None = codes "?"
-name_by (Some partner) = partner.name
-
-abbrev pub sender_name : SetupValue → (sender : Option ℕ) → List ℕ
-sender_name setup None = codes "?"
-sender_name setup (Some sender) = name_by (slice_get setup.partners sender)
 
 abbrev pub fault_cell : Option InterchangeFault → List ℕ
 fault_cell None = []

@@ -1,4 +1,4 @@
-ghost use Rattle.std.specs.Prelude.{◌≡◌, ◌++◌, ◌∷◌, [], IfOk, OnOk, decimal, drop, map, slice_get, slice_index_or, take};
+ghost use Rattle.std.specs.Prelude.{◌≡◌, ◌++◌, ◌∷◌, [], IfOk, OnOk, decimal, drop, map, slice_index_or, take};
 ghost use Rattle.x12_segs.specs.Words.{element_of};
 ghost use Rattle.judged_text.specs.Answered.{ta1_note};
 ghost use Rattle.judged_text.specs.Judged.{segments_in};
@@ -13,30 +13,11 @@ use env_index::GroupEnvelope;
 use hub_kinds::{Code, GroupCode, GroupVerdict, InterchangeFault, NoMemory, SetCode, code_text};
 use itoa::Buffer;
 use judged_text::{JudgedInterchange, PlacedSet, is_fa, ta1_note};
+use night_report::sender_name;
 use partner_setup::Setup;
 use set_documents::{Document, document_number};
 use std::alloc::Global;
 use x12_segs::SegView;
-
-/// A partner's name by its place in the setup; `?` where there is none.
-fn partner_name(setup: &Setup, place: usize) -> &[u8]
-    ensures { result.now ≡ cells.name_by (slice_get setup.entry.now.partners place) }
-{
-    match setup.partner_at(place) {
-        None => b"?",
-        Some(partner) => partner.name.as_slice(),
-    }
-}
-
-/// A sender's name; `?` where it is unknown.
-fn sender_name<'s>(setup: &'s Setup, sender: Option<usize>) -> &'s [u8]
-    ensures { result.now ≡ cells.sender_name setup.entry.now sender }
-{
-    match sender {
-        None => b"?",
-        Some(sender) => partner_name(setup, sender),
-    }
-}
 
 fn fault_cell(fault: Option<InterchangeFault>) -> &'static [u8]
     ensures { result.now ≡ cells.fault_cell fault }

@@ -1,6 +1,6 @@
 ghost use Rattle.std.specs.Prelude.{◌≡◌, ◌<◌, ◌++◌, ◌∷◌, [], List, Some, IfOk, OnOk, length, slice_get, slice_index_or};
 ghost use Rattle.env_index.specs.Words.{GroupEntry};
-ghost use Rattle.judged_text.specs.Judged.{PlacedValue, sets_of, standing_at};
+ghost use Rattle.judged_text.specs.Judged.{PlacedValue, sets_of};
 ghost use Rattle.partner_setup.specs.Setup.{route_of};
 ghost use Rattle.partner_setup.specs.Sound.{AreApart, AreWithin};
 ghost use Rattle.x12_segs.specs.Words.{element_of};
@@ -17,8 +17,9 @@ use crate::tracking::Tracking;
 use csv_fields::{append_end, append_fields};
 use env_index::GroupEnvelope;
 use hub_kinds::{GroupVerdict, NoMemory};
-use judged_text::{GroupStanding, JudgedInterchange, PlacedSet, is_fa, is_refused};
+use judged_text::{JudgedInterchange, PlacedSet, is_fa, is_refused};
 use mailbox::is_deliverable;
+use night_report::verdict_at;
 
 /// A target of a route, by its number from 0.
 fn target_at(route: &[usize], t: usize) -> usize
@@ -170,16 +171,6 @@ fn append_sets<'a>(
         append_set_rows(out, cursors, by, head, &placed, notes, route)?;
     }
     Ok(())
-}
-
-/// The verdict on group `k` (AK901).
-fn verdict_at(standings: &[GroupStanding], k: usize) -> GroupVerdict
-    ensures { result ≡ (standing_at standings.now k).verdict }
-{
-    match standings.get(k) {
-        Some(standing) => standing.verdict,
-        None => GroupVerdict::Rejected,
-    }
 }
 
 /// Writes the first fields of the rows of a group of interchange `n` with this verdict and these notes.

@@ -103,10 +103,9 @@ fn strays_are_told(rt: HostRuntime) -> Result<(), Fail> {
 #[test]
 fn needed_nodes_are_counted(rt: HostRuntime) -> Result<(), Fail> {
     let guide = guide_of(rt.alloc(), H850)?;
-    let fast = FastGuide::of(rt.alloc(), &guide)?;
-    let nodes = fast.table(0).ok_or("no table")?;
+    let nodes = Children::of(rt.alloc(), guide.rows().nodes.as_slice())?;
     for (from, to, wanted) in NEEDED {
-        expect_needed(nodes, *from, *to, *wanted)?;
+        expect_needed(&nodes, *from, *to, *wanted)?;
     }
     Ok(())
 }

@@ -1,6 +1,6 @@
 //! A guide with many slots of one id, distinguished by their picks.
 use crate::compiled::{DELIMS, guide_of};
-use guide_fast::{Children, FastGuide};
+use guide_fast::FastGuide;
 use hub_kinds::SegmentCode;
 use std::alloc::Global;
 use std::test::Fail;
@@ -46,28 +46,19 @@ fn push_slot(text: &mut String, picks: &str) -> Result<(), Fail> {
     Ok(())
 }
 
-/// The child from one on that a segment begins.
-fn begun(nodes: &Children<'_>, from: usize, bytes: &[u8]) -> Result<Option<usize>, Fail> {
-    if from > nodes.nodes().len() {
-        return Err("no such node")?;
-    }
-    let turn = nodes.start_from(from, &SegView::new(0, bytes, DELIMS));
-    Ok(turn.map(|turn| turn.child))
+/// The child that a segment begins.
+fn begun(fast: &FastGuide<'_>, bytes: &[u8]) -> Option<usize> {
+    let turn = fast.turn_from(&[], 1, &SegView::new(0, bytes, DELIMS));
+    turn.map(|turn| turn.child)
 }
 
-/// From the first child on they are searched, from the twentieth on gone through.
 #[test]
 fn slots_are_told_apart(rt: HostRuntime) -> Result<(), Fail> {
     let guide = guide_of(rt.alloc(), file(rt.alloc())?.as_str())?;
     let fast = FastGuide::of(rt.alloc(), &guide)?;
-    let nodes = fast.table(0).ok_or("no table")?;
     for (bytes, wanted) in PICKED {
-        if begun(nodes, 0, bytes)? != *wanted {
+        if begun(&fast, bytes) != *wanted {
             return Err("another child")?;
-        }
-        let behind = wanted.filter(|child| *child >= 20);
-        if begun(nodes, 20, bytes)? != behind {
-            return Err("another child behind the twentieth")?;
         }
     }
     Ok(())

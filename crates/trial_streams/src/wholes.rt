@@ -1,9 +1,7 @@
 //! From which byte on an interchange is whole.
 use crate::texts::{ORDER, Seen, TWO_ORDERS, WITHOUT_TRAILER, seen};
-use batch_cut::{Followed, OpenPart, follow};
 use std::alloc::Global;
 use std::test::Fail;
-use x12_bytes::{HEADER_LEN, read_header};
 
 /// Its segments are on lines, and a line end is after it.
 const LINES: &[u8] =
@@ -87,26 +85,4 @@ fn an_interchange_is_whole_from_its_last_byte_on(rt: HostRuntime) -> Result<(), 
         expect(rt.alloc(), case)?;
     }
     Ok(())
-}
-
-/// The end of the interchange that begins the text, where it is known.
-fn end_of(read: &[u8]) -> Option<usize> {
-    let header = read_header(read, 0)?;
-    let part = OpenPart {
-        at: HEADER_LEN,
-        lead: HEADER_LEN,
-        seen: HEADER_LEN,
-    };
-    match follow(read, header.delims(), part) {
-        Followed::End(end) => Some(end),
-        Followed::Wait(_) => None,
-    }
-}
-
-#[test]
-fn follows_an_interchange_to_its_end(rt: HostRuntime) {
-    assert_eq!(rt; end_of(ORDER), Some(236));
-    assert_eq!(rt; end_of(&ORDER[..235]), None);
-    assert_eq!(rt; end_of(TWO_ORDERS), Some(236));
-    assert_eq!(rt; end_of(WITHOUT_TRAILER), Some(220));
 }

@@ -1,8 +1,7 @@
 //! Interchanges, their groups and their sets: where each ends, and what the index keeps of it.
-use crate::alone::start;
 use crate::interchanges::{
-    HEADER_AS_A_SEGMENT, HEADER_IN_AN_ELEMENT, NOTICES, ORDER, ORDER_WITHOUT_TRAILER,
-    WITHOUT_TRAILERS, read,
+    HEADER_AS_A_SEGMENT, HEADER_IN_AN_ELEMENT, NOTICES, ORDER, ORDER_IN_LINES,
+    ORDER_WITHOUT_TRAILER, WITHOUT_TRAILERS, read,
 };
 use crate::texts::{holds, same};
 use env_index::{
@@ -32,6 +31,17 @@ const INTERCHANGES: &[(&[u8], usize, Seen)] = &[
         0,
         Seen {
             extent: (0, 236),
+            ta1s: 0,
+            misplaced: false,
+            groups: 1,
+            fault: None,
+        },
+    ),
+    (
+        ORDER_IN_LINES,
+        0,
+        Seen {
+            extent: (0, 250),
             ta1s: 0,
             misplaced: false,
             groups: 1,
@@ -330,13 +340,6 @@ fn no_interchange_begins_elsewhere(rt: HostRuntime) -> Result<(), Fail> {
     let text = ORDER_WITHOUT_TRAILER;
     holds(text.len() == 456, "another length")?;
     holds(!begins_at(rt.alloc(), text, 1)?, "an interchange")
-}
-
-#[test]
-fn an_interchange_with_a_header_in_an_element_is_alone(rt: HostRuntime) -> Result<(), Fail> {
-    let text = HEADER_IN_AN_ELEMENT;
-    holds(text.len() == 358, "another length")?;
-    holds(start(rt.alloc(), text)?.is_some(), "not alone")
 }
 
 #[test]

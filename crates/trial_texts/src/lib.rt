@@ -9,8 +9,6 @@
 #[cfg(test)]
 mod acknowledgments;
 #[cfg(test)]
-mod alone;
-#[cfg(test)]
 mod envelopes;
 #[cfg(test)]
 mod faults;

@@ -43,6 +43,34 @@ pub fn separator_place(k: usize) -> usize
     }
 }
 
+/// How wide field `k` is.
+#[inline(always)]
+pub fn width_of(k: usize) -> usize
+    requires from { 1 ≤ k }
+    requires to { k ≤ 16 }
+    ensures value { result ≡ width_of k }
+    ensures bound { result ≤ 15 }
+{
+    match k {
+        1 => 2,
+        2 => 10,
+        3 => 2,
+        4 => 10,
+        5 => 2,
+        6 => 15,
+        7 => 2,
+        8 => 15,
+        9 => 6,
+        10 => 4,
+        11 => 1,
+        12 => 5,
+        13 => 9,
+        14 => 1,
+        15 => 1,
+        _ => 1,
+    }
+}
+
 /// Field `k` of a header's bytes.
 #[inline(always)]
 pub fn field(bytes: &[u8], k: usize) -> &[u8]

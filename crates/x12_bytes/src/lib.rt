@@ -5,6 +5,7 @@
 //! Proved:
 //! - `read_header` finds a header exactly where one begins, and lends exactly its 106 bytes; so does
 //!   `header_there`, without a test, where one is known to begin;
+//! - `separator_place` and `width_of` are where each field's separator is, and how wide the field is;
 //! - each field is the bytes after its separator, and holds neither the separator nor the
 //!   terminator;
 //! - the delimiters are those that the header names, ISA11 only where it can separate;
@@ -35,7 +36,7 @@ mod spaces;
 
 pub use delims::Delims;
 pub use header::Header;
-pub use layout::HEADER_LEN;
+pub use layout::{HEADER_LEN, separator_place, width_of};
 pub use pair::Pair;
 pub use piece::Piece;
 pub use read::{head_is_tested, header_there, read_header};

@@ -15,7 +15,7 @@
 //! - `append_trailer` writes the number of groups and the interchange's number in nine digits;
 //! - `append_segment` leaves off exactly the empty elements at the end; `append_coded_segment` does the same of
 //!   elements after which codes are;
-//! - a `PaddedNumber` is the number in decimal, with leading zeros up to a width;
+//! - a `PaddedNumber` is the number in decimal, with leading zeros up to a width; `PaddedNumber::of_set` is a set's;
 //! - `is_delimiter` recognizes the bytes that divide a text.
 //!
 //! Source: X12.5, interchange control header and trailer; X12.6, functional group header and trailer, segment.

@@ -1,5 +1,5 @@
 ghost use Rattle.std.specs.Prelude.{◌≡◌, ℕ, ◌+◌, ◌-◌, ◌≤◌, min, ◌++◌, List, length, drop, OnOk, decimal};
-ghost use Rattle.x12_write.specs.Number.{padded_number, padded_text};
+ghost use Rattle.x12_write.specs.Number.{padded_number, padded_text, set_number};
 ghost use Rattle.x12_write.specs.Extends.{Extends};
 
 use hub_kinds::NoMemory;
@@ -39,6 +39,13 @@ impl PaddedNumber {
             digits,
             start: first_shown(start, least),
         }
+    }
+
+    /// The control number of a transaction set (X12.6, ST02): with leading zeros up to four digits.
+    pub fn of_set(number: u32) -> PaddedNumber
+        ensures { result ≡ set_number number }
+    {
+        PaddedNumber::new(number, 4)
     }
 
     /// The text.

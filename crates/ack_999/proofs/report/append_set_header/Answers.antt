@@ -1,7 +1,7 @@
 use Rattle.std.proofs.Common.{ap, sym, ◌∙◌, ◌≡◌, ◌++◌, List, ℕ, [], ◌∷◌, append_assoc, append-nil}
 use Rattle.std.specs.List.{flat_map}
 use Rattle.std.specs.Prelude.{codes}
-use Rattle.x12_write.specs.Number.{padded_number}
+use Rattle.x12_write.specs.Number.{set_number}
 use Rattle.x12_write.specs.Segment.{before_rest}
 use Rattle.x12_write.proofs.ForAbove.{before_rest-some}
 use Rattle.ack_999.proofs.report.append_set_header.Goals as goal
@@ -30,8 +30,8 @@ appended s t out out1 out2 out3 number version a b c =
 pub returns-clause-text : goal.returns-clause-text
 returns-clause-text c =
     appended c.args.delims.now.element c.args.delims.now.terminator c.args.out.now.items c.extend_from_slice.new.self.items
-    c.extend_from_slice-2.new.self.items c.extend_from_slice-3.new.self.items (padded_number 4 c.args.n) (codes "005010X231")
+    c.extend_from_slice-2.new.self.items c.extend_from_slice-3.new.self.items (set_number c.args.n) (codes "005010X231")
     c.in_ok-extend_from_slice.ensures.items
     (c.in_ok-extend_from_slice-2.ensures.items
-    ∙ ap (λ (x : List ℕ). c.extend_from_slice.new.self.items ++ x) (c.bytes.ensures ∙ c.set_control_number.ensures))
+    ∙ ap (λ (x : List ℕ). c.extend_from_slice.new.self.items ++ x) (c.bytes.ensures ∙ c.of_set.ensures))
     c.in_ok-extend_from_slice-3.ensures.items

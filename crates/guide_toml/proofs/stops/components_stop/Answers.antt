@@ -1,5 +1,4 @@
-use Rattle.std.proofs.Common.{◌+◌, ◌<◌, length, drop, ◌∙◌, arith}
-use Rattle.guide_toml.specs.Tokens.{token_groups}
+use Rattle.std.proofs.Common.{◌<◌, length, ◌∙◌, arith}
 use Rattle.guide_toml.proofs.ComponentSteps.{first_group, next_group, only_group}
 use Rattle.guide_toml.proofs.StopSteps.{stops_here, stops_later, stops_nowhere}
 use Rattle.guide_toml.proofs.stops.components_stop.Goals as goal
