@@ -9,7 +9,7 @@ use Rattle.std.specs.declared.alloc.Global.{Global}
 use Rattle.night_ends.proofs.ForAbove.{found}
 use Rattle.program_frame.specs.Matching.{AsksForText}
 use Rattle.sets_again.specs.declared.wanted.Wanted.{Wanted}
-use Rattle.track_tables.specs.declared.export.Form.{Form}
+use Rattle.track_read.specs.declared.export.Form.{Form}
 use Rattle.day_command.specs.CommandLine.{IsAsked, IsRequest, again, check, day_app, export, find, page}
 use Rattle.day_command.specs.CommandLine.{request_given}
 use Rattle.day_command.specs.CommandLine.{request_of, value_of}

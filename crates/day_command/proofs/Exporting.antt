@@ -5,10 +5,10 @@ use Rattle.std.proofs.lemmas.Grind.{flat_map-append}
 use Rattle.std.proofs.lemmas.List.{append-nil}
 use Rattle.std.proofs.lemmas.List.Folds.{list_all-append}
 use Rattle.night_search.specs.Lines.{unread_line}
-use Rattle.track_tables.specs.Export.{export_columns}
-use Rattle.track_tables.specs.Night.{is_read}
-use Rattle.track_tables.specs.declared.export.Form.{Form}
-use Rattle.track_tables.specs.declared.night.NightTable.{NightTable}
+use Rattle.track_read.specs.Export.{export_columns}
+use Rattle.track_read.specs.Night.{is_read}
+use Rattle.track_read.specs.declared.export.Form.{Form}
+use Rattle.track_read.specs.declared.night.NightTable.{NightTable}
 use Rattle.day_command.specs.Export.{IsExport, table_rows}
 use Rattle.day_command.specs.declared.export.Export.{Export}
 

@@ -5,8 +5,8 @@ use Rattle.night_marks.specs.Count.{unarchived}
 use Rattle.night_marks.specs.Order.{in_order}
 use Rattle.night_marks.specs.declared.mark.NightMark.{NightMark}
 use Rattle.night_search.specs.Search.{are_read, is_found, search_text}
-use Rattle.track_tables.specs.declared.export.Form.{Form}
-use Rattle.track_tables.specs.declared.night.NightTable.{NightTable}
+use Rattle.track_read.specs.declared.export.Form.{Form}
+use Rattle.track_read.specs.declared.night.NightTable.{NightTable}
 use Rattle.day_command.specs.Export.{IsExport}
 use Rattle.day_command.specs.Outcome.{IsExportReport, IsSearchReport}
 use Rattle.night_review.specs.Nights.{AreNights}

@@ -10,9 +10,9 @@ use Rattle.night_page.specs.Rows.{Row}
 use Rattle.night_page.specs.Totals.{gives_totals}
 use Rattle.night_page.specs.declared.record.RecordShown.{RecordShown}
 use Rattle.night_page.specs.declared.told.PartnerTold.{PartnerTold}
-use Rattle.track_tables.specs.Night.{IsStateOf}
-use Rattle.track_tables.specs.Table.{IsTable}
-use Rattle.track_tables.specs.declared.night.TableState.TheVariants as state
+use Rattle.track_read.specs.Night.{IsStateOf}
+use Rattle.track_read.specs.Table.{IsTable}
+use Rattle.track_read.specs.declared.night.TableState.TheVariants as state
 use Rattle.day_command.specs.Failure.{IsBefore}
 use Rattle.day_command.specs.declared.failure.Failure.{Failure}
 use Rattle.day_command.specs.declared.failure.Failure.TheVariants as failure

@@ -6,7 +6,7 @@ use Rattle.sets_again.specs.Again.{IsAgain}
 use Rattle.sets_again.specs.Rows.{Row}
 use Rattle.sets_again.specs.declared.wanted.Wanted.{Wanted}
 use Rattle.sets_again.specs.declared.wanted.Wanted.TheVariants as wanted
-use Rattle.track_tables.specs.Table.{IsTable}
+use Rattle.track_read.specs.Table.{IsTable}
 use Rattle.day_command.specs.declared.again.Again.{Again}
 
 -- the line on standard error if no set goes in again

@@ -8,8 +8,8 @@ use Rattle.program_frame.specs.Arguments.{option_flag, program, value_in, word}
 use Rattle.program_frame.specs.Matching.{AsksForText}
 use Rattle.sets_again.specs.declared.wanted.Wanted.{Wanted}
 use Rattle.sets_again.specs.declared.wanted.Wanted.TheVariants as wanted
-use Rattle.track_tables.specs.declared.export.Form.{Form}
-use Rattle.track_tables.specs.declared.export.Form.TheVariants as form
+use Rattle.track_read.specs.declared.export.Form.{Form}
+use Rattle.track_read.specs.declared.export.Form.TheVariants as form
 use Rattle.day_command.specs.declared.command.Asked.{Asked}
 use Rattle.day_command.specs.declared.command.Asked.TheVariants as asked
 

@@ -3,10 +3,10 @@ use Rattle.std.specs.Prelude.{◌≡◌, ℕ, List, ◌++◌}
 use Rattle.std.specs.List.{flat_map}
 use Rattle.night_search.specs.Lines.{unread_lines}
 use Rattle.night_search.specs.Search.{are_read}
-use Rattle.track_tables.specs.Export.{export_columns, export_rows}
-use Rattle.track_tables.specs.Night.{rows_of}
-use Rattle.track_tables.specs.declared.export.Form.{Form}
-use Rattle.track_tables.specs.declared.night.NightTable.{NightTable}
+use Rattle.track_read.specs.Export.{export_columns, export_rows}
+use Rattle.track_read.specs.Night.{rows_of}
+use Rattle.track_read.specs.declared.export.Form.{Form}
+use Rattle.track_read.specs.declared.night.NightTable.{NightTable}
 use Rattle.day_command.specs.declared.export.Export.{Export}
 
 -- the rows of a table that was read; none of another

@@ -15,8 +15,8 @@ use Rattle.night_search.specs.Lines.{unread_lines}
 use Rattle.night_search.specs.Search.{are_read, is_found, search_text}
 use Rattle.program_frame.specs.Matching.{AsksForText}
 use Rattle.sets_again.specs.declared.wanted.Wanted.{Wanted}
-use Rattle.track_tables.specs.declared.export.Form.{Form}
-use Rattle.track_tables.specs.declared.night.NightTable.{NightTable}
+use Rattle.track_read.specs.declared.export.Form.{Form}
+use Rattle.track_read.specs.declared.night.NightTable.{NightTable}
 use Rattle.day_command.specs.CommandLine.{Request, again, check, day_app, export, find, page, request_of, value_of}
 use Rattle.day_command.specs.Again.{IsAgainOf}
 use Rattle.day_command.specs.Export.{export_text}

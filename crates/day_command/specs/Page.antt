@@ -15,7 +15,7 @@ use Rattle.night_page.specs.Rows.{Row}
 use Rattle.night_page.specs.Totals.{gives_totals}
 use Rattle.night_page.specs.declared.record.RecordShown.{RecordShown}
 use Rattle.night_page.specs.declared.told.PartnerTold.{PartnerTold}
-use Rattle.track_tables.specs.Table.{IsTable}
+use Rattle.track_read.specs.Table.{IsTable}
 use Rattle.day_command.specs.Record.{IsShownAt}
 use Rattle.day_command.specs.declared.papers.PagePapers.{PagePapers}
 

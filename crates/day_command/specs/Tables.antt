@@ -7,9 +7,9 @@ use Rattle.night_marks.specs.Count.{unarchived}
 use Rattle.night_marks.specs.Order.{in_order}
 use Rattle.night_marks.specs.declared.mark.NightMark.{NightMark}
 use Rattle.night_review.specs.Nights.{AreNights}
-use Rattle.track_tables.specs.Night.{IsStateOf}
-use Rattle.track_tables.specs.declared.night.NightTable.{NightTable}
-use Rattle.track_tables.specs.declared.night.TableState.{TableState}
+use Rattle.track_read.specs.Night.{IsStateOf}
+use Rattle.track_read.specs.declared.night.NightTable.{NightTable}
+use Rattle.track_read.specs.declared.night.TableState.{TableState}
 
 -- the table of a night, by its file track.csv
 pub record IsTableAt (nights : List ℕ) (mark : NightMark) (table : NightTable) : Type 0 where

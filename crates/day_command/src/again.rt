@@ -9,7 +9,7 @@ use night_folder::read_paper;
 use sets_again::{Wanted, sets_again};
 use std::alloc::Global;
 use std::rt::Files;
-use track_tables::read_table;
+use track_read::read_table;
 
 /// What is printed of the sets of a night that go in again.
 #[derive(Drop)]

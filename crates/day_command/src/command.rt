@@ -11,7 +11,7 @@ use program_frame::{Matched, Mistake, match_words, option_flag, program, word};
 use sets_again::Wanted;
 use std::alloc::{AllocError, Global};
 use std::convert::AsStr;
-use track_tables::Form;
+use track_read::Form;
 
 /// The name of the program.
 pub(crate) const PROGRAM: &str = "nighthub_day";

@@ -1,6 +1,6 @@
 ghost use Rattle.std.specs.Prelude.{◌≡◌, ◌↔◌, ◌⊎◌, ◌++◌, ◌∷◌, [], ℕ, List, true, IfErr, IfOk, OnOk, map};
 ghost use Rattle.std.specs.List.{AllZip};
-ghost use Rattle.track_tables.specs.declared.night.NightTable.{NightTable};
+ghost use Rattle.track_read.specs.declared.night.NightTable.{NightTable};
 ghost use Rattle.day_command.specs.Export as export;
 ghost use Rattle.day_command.specs.Failure.{IsBefore};
 ghost use Rattle.day_command.specs.Outcome.{IsExportReport};
@@ -14,7 +14,7 @@ use night_review::nights_at;
 use night_search::append_unread;
 use std::alloc::Global;
 use std::rt::Files;
-use track_tables::{Form, NightTable, append_columns, append_rows};
+use track_read::{Form, NightTable, append_columns, append_rows};
 
 /// The tables of nights as they are exported.
 #[derive(Drop)]

@@ -1,7 +1,7 @@
 ghost use Rattle.std.specs.Prelude.{◌≡◌, ◌↔◌, ◌⊎◌, List, true, IfErr, IfOk, map};
 ghost use Rattle.std.specs.List.{AllZip};
 ghost use Rattle.night_search.specs.Search.{IsSearch};
-ghost use Rattle.track_tables.specs.declared.night.NightTable.{NightTable};
+ghost use Rattle.track_read.specs.declared.night.NightTable.{NightTable};
 ghost use Rattle.day_command.specs.Failure.{IsBefore};
 ghost use Rattle.day_command.specs.Outcome.{IsSearchReport};
 ghost use Rattle.day_command.specs.Tables.{IsTableAt};

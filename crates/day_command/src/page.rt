@@ -16,7 +16,7 @@ use night_page::{FOOT, HEAD, NightPage, PartnerTold, append_page, gives_totals};
 use night_review::Report;
 use std::alloc::Global;
 use std::rt::Files;
-use track_tables::TableState;
+use track_read::TableState;
 
 /// The path of the night `name` in the folder at the path `nights`.
 pub(crate) fn night_path(alloc: Global, nights: &[u8], name: &[u8]) -> Result<Vec<u8>, NoMemory>

@@ -24,7 +24,7 @@ use sets_again::Wanted;
 use std::convert::AsStr;
 use std::io::Write;
 use std::rt::{Clock, Files};
-use track_tables::Form;
+use track_read::Form;
 
 /// Runs the program on its arguments, without its name, and gives its exit status: 0 or 1 by what the nights are, as `IsRun` says, or
 /// that of the failure whose line it has printed on `err`.

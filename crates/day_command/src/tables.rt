@@ -6,7 +6,7 @@ use night_folder::read_paper;
 use night_marks::NightMark;
 use std::alloc::Global;
 use std::rt::Files;
-use track_tables::{NightTable, TableState, read_state};
+use track_read::{NightTable, TableState, read_state};
 
 /// The name of the table of the night `night` in the folder of all nights.
 fn table_name(alloc: Global, night: &[u8]) -> Result<Text, NoMemory>

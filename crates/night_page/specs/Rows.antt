@@ -2,7 +2,7 @@
 use Rattle.std.specs.Prelude.{ℕ, Bool, List, [], ◌∷◌, codes, if◌then◌else◌}
 use Rattle.std.specs.Str.{bytes_eq}
 use Rattle.night_search.specs.Lines.{document, joined, outcome, outcome_words, sender, st01}
-use Rattle.track_tables.specs.Table.{field}
+use Rattle.track_read.specs.Table.{field}
 
 abbrev pub Row : Type 0
 Row = List (List ℕ)

@@ -9,7 +9,7 @@ use crate::rows::{BYTE, FAULT, GS03, has_outcome, is_refused, words_of};
 use csv::ByteRecord;
 use hub_kinds::{NoMemory, Text};
 use std::alloc::Global;
-use track_tables::{RECEIVER, field};
+use track_read::{RECEIVER, field};
 
 fn is_unknown_sender(row: &ByteRecord) -> bool
     ensures { result ≡ causes.is_unknown_sender (fields_of row.now) }

@@ -7,7 +7,7 @@ use crate::rows::{GS06, OFFSET, ST02};
 use csv::ByteRecord;
 use hub_kinds::NoMemory;
 use std::alloc::Global;
-use track_tables::{RECEIVER, field};
+use track_read::{RECEIVER, field};
 
 /// A route has no more receivers than this.
 const MOST_RECEIVERS: usize = 16;

@@ -14,7 +14,7 @@ use crate::told::PartnerTold;
 use csv::ByteRecord;
 use hub_kinds::{NoMemory, copy_text};
 use std::alloc::Global;
-use track_tables::{RECEIVER, SENDER, field};
+use track_read::{RECEIVER, SENDER, field};
 
 /// Who is named as the sender of some row.
 fn senders(alloc: Global, rows: &[ByteRecord]) -> Result<Vec<Name>, NoMemory>

@@ -8,9 +8,9 @@ use csv::ByteRecord;
 use hub_kinds::NoMemory;
 use night_search::{append_outcome, append_parts};
 use std::alloc::Global;
-use track_tables::{DOCUMENT, OUTCOME, SENDER, ST01, field};
+use track_read::{DOCUMENT, OUTCOME, SENDER, ST01, field};
 
-/// The places of fields in a row, counted from 0, beside those that `track_tables` names.
+/// The places of fields in a row, counted from 0, beside those that `track_read` names.
 pub(crate) const INTERCHANGE: usize = 0;
 
 pub(crate) const OFFSET: usize = 1;

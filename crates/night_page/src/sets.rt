@@ -12,7 +12,7 @@ use crate::tags::{append_count, append_fixed, append_table_head, append_table_ro
 use csv::ByteRecord;
 use hub_kinds::NoMemory;
 use std::alloc::Global;
-use track_tables::{DOCUMENT, SENDER, ST01, VERDICT, field};
+use track_read::{DOCUMENT, SENDER, ST01, VERDICT, field};
 
 /// Above so many rows those of deliveries are left out.
 const MOST_ROWS: usize = 5_000;

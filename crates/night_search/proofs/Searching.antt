@@ -6,8 +6,8 @@ use Rattle.std.proofs.lemmas.Grind.{flat_map-append}
 use Rattle.std.proofs.lemmas.List.{append-nil, map-append, take_more}
 use Rattle.std.proofs.lemmas.List.Folds.{list_all-append, list_any-append}
 use Rattle.night_search.specs.Search.{IsSearch, SearchValue, has_row, night_lines}
-use Rattle.track_tables.specs.Night.{is_read}
-use Rattle.track_tables.specs.declared.night.NightTable.{NightTable}
+use Rattle.track_read.specs.Night.{is_read}
+use Rattle.track_read.specs.declared.night.NightTable.{NightTable}
 
 or_false : (b : Bool) → (b || false) ≡ b
 or_false true = refl

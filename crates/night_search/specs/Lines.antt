@@ -4,10 +4,10 @@ use Rattle.std.specs.Prelude.{ℕ, List, [], ◌∷◌, ◌++◌, codes, map, if
 use Rattle.std.specs.List.{flat_map}
 use Rattle.std.specs.Str.{bytes_eq}
 use Rattle.file_names.specs.Shown.{shown}
-use Rattle.track_tables.specs.Table.{field}
-use Rattle.track_tables.specs.declared.night.NightTable.{NightTable}
-use Rattle.track_tables.specs.declared.night.TableState.{TableState}
-use Rattle.track_tables.specs.declared.night.TableState.TheVariants as state
+use Rattle.track_read.specs.Table.{field}
+use Rattle.track_read.specs.declared.night.NightTable.{NightTable}
+use Rattle.track_read.specs.declared.night.TableState.{TableState}
+use Rattle.track_read.specs.declared.night.TableState.TheVariants as state
 use denote.Ref.{Bor}
 
 -- parts of a text, one after another

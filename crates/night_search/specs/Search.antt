@@ -3,8 +3,8 @@ use Rattle.std.specs.Prelude.{◌≡◌, ℕ, Bool, List, [], ◌∷◌, ◌++�
 use Rattle.std.specs.List.{flat_map, list_all, list_any}
 use Rattle.memchr.specs.Find.{first_of, matches}
 use Rattle.night_search.specs.Lines.{document, none_line, row_line, unread_line}
-use Rattle.track_tables.specs.Night.{is_read, rows_of}
-use Rattle.track_tables.specs.declared.night.NightTable.{NightTable}
+use Rattle.track_read.specs.Night.{is_read, rows_of}
+use Rattle.track_read.specs.declared.night.NightTable.{NightTable}
 
 -- the text occurs in a row's document, at the first place that there is
 abbrev pub has_text : (text : List ℕ) → (row : List (List ℕ)) → Bool

@@ -5,7 +5,7 @@ ghost use Rattle.night_search.specs.Search as search;
 
 use csv::ByteRecord;
 use memchr::memmem::find;
-use track_tables::{DOCUMENT, field};
+use track_read::{DOCUMENT, field};
 
 fn contains(document: &[u8], text: &[u8]) -> bool
     ensures { result ≡ is_some (first_of (matches document.now text.now 0)) }

@@ -6,7 +6,7 @@ use crate::append::{append_line, append_parts};
 use csv::ByteRecord;
 use hub_kinds::NoMemory;
 use std::alloc::Global;
-use track_tables::{DOCUMENT, OUTCOME, RECEIVER, RECEIVER_ISA13, SENDER, ST01, VERDICT, field};
+use track_read::{DOCUMENT, OUTCOME, RECEIVER, RECEIVER_ISA13, SENDER, ST01, VERDICT, field};
 
 fn append_delivered(out: &mut Vec<u8>, row: &ByteRecord) -> Result<(), NoMemory>
     ensures { OnOk result (out.new.items ≡ out.old.items ++ lines.delivered_words (fields_of row.now)) }

@@ -11,7 +11,7 @@ use csv::ByteRecord;
 use hub_kinds::NoMemory;
 use std::alloc::Global;
 use std::marker::Model;
-use track_tables::NightTable;
+use track_read::NightTable;
 
 /// What a search has found so far.
 #[derive(Drop)]
@@ -106,7 +106,7 @@ fn lines_or_none(alloc: Global, text: &[u8], lines: Vec<u8>) -> Result<Vec<u8>, 
 impl Search {
     ghost use Rattle.std.specs.Prelude.{◌≡◌, ◌↔◌, ◌++◌, ◌∷◌, [], ℕ, List, true, IfOk, OnOk};
     ghost use Rattle.night_search.specs.Search as search;
-    ghost use Rattle.track_tables.specs.declared.night.NightTable.{NightTable};
+    ghost use Rattle.track_read.specs.declared.night.NightTable.{NightTable};
 
     /// A search of no night yet.
     pub fn new(alloc: Global) -> Search

@@ -4,7 +4,7 @@ ghost use Rattle.night_search.specs.Lines as lines;
 use crate::append::{append_line, append_parts};
 use hub_kinds::NoMemory;
 use std::alloc::Global;
-use track_tables::{NightTable, TableState};
+use track_read::{NightTable, TableState};
 
 fn append_words(
     alloc: Global,

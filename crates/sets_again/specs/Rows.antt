@@ -3,7 +3,7 @@ use Rattle.std.specs.Prelude.{ℕ, ◌==◌, ◌&&◌, not, Bool, false, List, [
 use Rattle.std.specs.Prelude.{codes, decimal, if◌then◌else◌, length, take, drop}
 use Rattle.std.specs.List.{list_any, prefix_len}
 use Rattle.std.specs.Str.{bytes_eq}
-use Rattle.track_tables.specs.Table.{field}
+use Rattle.track_read.specs.Table.{field}
 use Rattle.sets_again.specs.declared.wanted.Wanted.{Wanted}
 use Rattle.sets_again.specs.declared.wanted.Wanted.TheVariants as wanted
 

@@ -7,9 +7,9 @@ use csv::ByteRecord;
 use hub_kinds::NoMemory;
 use itoa::Buffer;
 use std::alloc::Global;
-use track_tables::{OUTCOME, RECEIVER, field};
+use track_read::{OUTCOME, RECEIVER, field};
 
-/// The places of fields in a row, counted from 0, beside those that `track_tables` names.
+/// The places of fields in a row, counted from 0, beside those that `track_read` names.
 const OFFSET: usize = 1;
 
 const GS06: usize = 7;

@@ -4,7 +4,7 @@ use Rattle.std.specs.Prelude.{IfSome, option_map}
 use Rattle.csv.specs.Records.{fields_of}
 use Rattle.csv.specs.declared.record.ByteRecord.{ByteRecord}
 use Rattle.sets_again.specs.Again.{IsAgain}
-use Rattle.track_tables.specs.Table.{IsTable}
+use Rattle.track_read.specs.Table.{IsTable}
 use Rattle.day_command.proofs.again.text_at.Goals as goal
 
 pub returns-clause-again : goal.returns-clause-again

@@ -4,7 +4,7 @@ use Rattle.std.specs.List.{AllZip}
 use Rattle.night_marks.specs.Count.{unarchived}
 use Rattle.night_marks.specs.Order.{in_order}
 use Rattle.night_marks.specs.declared.mark.NightMark.{NightMark}
-use Rattle.track_tables.specs.declared.night.NightTable.{NightTable}
+use Rattle.track_read.specs.declared.night.NightTable.{NightTable}
 use Rattle.day_command.specs.Tables.{IsTableAt}
 use Rattle.day_command.proofs.Finding.{exported}
 use Rattle.day_command.proofs.export.export_nights.Goals as goal

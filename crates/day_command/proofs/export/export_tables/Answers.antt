@@ -1,7 +1,7 @@
 use Rattle.std.proofs.Common.{[], ◌∷◌, ◌++◌, List, arith}
 use Rattle.std.specs.Borrow.{Bor}
 use Rattle.night_marks.specs.declared.mark.NightMark.{NightMark}
-use Rattle.track_tables.specs.declared.night.NightTable.{NightTable}
+use Rattle.track_read.specs.declared.night.NightTable.{NightTable}
 use Rattle.day_command.specs.Tables.{IsTableAt}
 use Rattle.day_command.proofs.Zips.{zip_map_more}
 use Rattle.day_command.proofs.export.export_tables.Goals as goal

@@ -1,7 +1,7 @@
 use Rattle.std.proofs.Common.{List, map, take}
 use Rattle.std.specs.List.{AllZip}
 use Rattle.day_command.specs.Export.{IsExport}
-use Rattle.track_tables.specs.declared.night.NightTable.{NightTable}
+use Rattle.track_read.specs.declared.night.NightTable.{NightTable}
 use Rattle.day_command.specs.Tables.{IsTableAt}
 use Rattle.day_command.proofs.export.export_tables.Given as goal
 

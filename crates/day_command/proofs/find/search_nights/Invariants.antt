@@ -1,7 +1,7 @@
 use Rattle.std.proofs.Common.{List, map, take}
 use Rattle.std.specs.List.{AllZip}
 use Rattle.night_search.specs.Search.{IsSearch}
-use Rattle.track_tables.specs.declared.night.NightTable.{NightTable}
+use Rattle.track_read.specs.declared.night.NightTable.{NightTable}
 use Rattle.day_command.specs.Tables.{IsTableAt}
 use Rattle.day_command.proofs.find.search_nights.Given as goal
 

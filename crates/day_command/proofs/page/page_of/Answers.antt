@@ -4,7 +4,7 @@ use Rattle.csv.specs.declared.record.ByteRecord.{ByteRecord}
 use Rattle.night_ends.specs.Outbox.{path_in}
 use Rattle.night_page.specs.Totals.{gives_totals}
 use Rattle.night_page.specs.declared.told.PartnerTold.{PartnerTold}
-use Rattle.track_tables.specs.declared.night.TableState.{TableState}
+use Rattle.track_read.specs.declared.night.TableState.{TableState}
 use Rattle.day_command.specs.Page.{IsPageOf, total_of}
 use Rattle.day_command.specs.Tables.{IsStateAt}
 use Rattle.day_command.proofs.Paging.{paged}
