@@ -10,7 +10,7 @@ const LONGEST_COPY: usize = 99;
 
 /// What is shown of a text in error (999 guide, IK404): up to 99 bytes of it, where each of its bytes prints
 /// and none is a delimiter of the acknowledgment; otherwise nothing.
-pub fn copied<'a>(delims: &Delims, text: &'a [u8]) -> &'a [u8]
+pub(crate) fn copied<'a>(delims: &Delims, text: &'a [u8]) -> &'a [u8]
     ensures { result.now ≡ copy_text delims.now text.now }
 {
     if may_be_shown(delims, text) {

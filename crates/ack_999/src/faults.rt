@@ -9,7 +9,11 @@ use hub_kinds::{Fault, NoMemory};
 use x12_bytes::Delims;
 
 /// Writes what is reported of a set's faults after what is there.
-pub fn append_faults(out: &mut Vec<u8>, delims: &Delims, faults: &[Fault]) -> Result<(), NoMemory>
+pub(crate) fn append_faults(
+    out: &mut Vec<u8>,
+    delims: &Delims,
+    faults: &[Fault],
+) -> Result<(), NoMemory>
     ensures text { OnOk result (out.new.items ≡ out.old.items ++ segments_text delims.now (fault_segments delims.now faults.now)) }
     ensures kept { Extends out.old.items out.new.items }
 {
@@ -62,7 +66,7 @@ fn is_this(number: Option<u64>, other: u64) -> bool
 }
 
 /// How many segments report a set's faults.
-pub fn fault_segment_count(faults: &[Fault]) -> u64
+pub(crate) fn fault_segment_count(faults: &[Fault]) -> u64
     ensures value { result ≡ length (notes faults.now) }
     ensures bound { result ≤ 2 * length faults.now }
 {

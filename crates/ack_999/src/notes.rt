@@ -12,7 +12,7 @@ use x12_bytes::Delims;
 use x12_write::{append_end, append_segment, append_used};
 
 /// Writes IK3 after what is there.
-pub fn append_segment_note(
+pub(crate) fn append_segment_note(
     out: &mut Vec<u8>,
     delims: &Delims,
     fault: &Fault,
@@ -69,7 +69,7 @@ fn code_shown(fault: &Fault) -> SegmentCode
 }
 
 /// Writes IK4 after what is there.
-pub fn append_element_note(
+pub(crate) fn append_element_note(
     out: &mut Vec<u8>,
     delims: &Delims,
     elem: &ElemFault,

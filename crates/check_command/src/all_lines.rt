@@ -83,7 +83,11 @@ fn said_at(all: &[Texts], place: usize) -> &[Text]
 }
 
 /// The lines of these files, of each of which this is said.
-pub fn all_lines(alloc: Global, files: &[FileTold<'_>], all: &[Texts]) -> Result<Vec<u8>, NoMemory>
+pub(crate) fn all_lines(
+    alloc: Global,
+    files: &[FileTold<'_>],
+    all: &[Texts],
+) -> Result<Vec<u8>, NoMemory>
     ensures { IfOk result (λ text. text.items ≡ lines.all_lines files.now all.now) }
 {
     let mut text = Vec::new(alloc);
@@ -100,7 +104,7 @@ fn is_nothing(all: &[Texts]) -> bool
 }
 
 /// The status: 0 where each file is taken, and nothing is said of any, else 3.
-pub fn all_status(files: &[FileTold<'_>], all: &[Texts]) -> u8
+pub(crate) fn all_status(files: &[FileTold<'_>], all: &[Texts]) -> u8
     ensures status { result ≡ lines.all_status files.now all.now }
     ensures values { (result ≡ 0) ⊎ (result ≡ 3) }
 {

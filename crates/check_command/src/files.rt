@@ -29,7 +29,7 @@ pub struct GivenFiles<'a> {
 }
 
 /// Reads the files that these options name.
-pub fn read_files<'a, R: Files + AllocGlobal>(
+pub(crate) fn read_files<'a, R: Files + AllocGlobal>(
     rt: &R,
     options: &Options<'a>,
 ) -> Result<GivenFiles<'a>, NoMemory>

@@ -235,7 +235,7 @@ pub fn said_of_files(alloc: Global, given: &GivenFiles<'_>) -> Result<Items<Text
 }
 
 /// What is printed, if all is asked for.
-pub fn said_if(
+pub(crate) fn said_if(
     alloc: Global,
     all: bool,
     given: &GivenFiles<'_>,

@@ -56,7 +56,7 @@ fn guide_words(alloc: Global, bytes: &[u8], fault: &GuideFault) -> Result<Text, 
 }
 
 /// The table that bytes write, which are known to write one: the only error is out of memory.
-pub fn table_of(alloc: Global, bytes: &[u8]) -> Result<Table, NoMemory>
+pub(crate) fn table_of(alloc: Global, bytes: &[u8]) -> Result<Table, NoMemory>
     ensures { IfOk result (λ table. table_of bytes.now ≡ Some (table_view table)) }
 {
     match std::str::from_utf8(bytes) {
@@ -167,7 +167,7 @@ fn counters_refusal(alloc: Global, bytes: &[u8], fault: &FileFault) -> Result<Te
 }
 
 /// What a setup file is judged as.
-pub fn judge_rows(alloc: Global, bytes: &Option<Text>) -> Result<Judged<SetupRows>, NoMemory>
+pub(crate) fn judge_rows(alloc: Global, bytes: &Option<Text>) -> Result<Judged<SetupRows>, NoMemory>
     ensures { IfOk result (IsFileJudged setup_of_table setup_key_words bytes.now) }
 {
     let Some(bytes) = bytes else {
@@ -180,7 +180,10 @@ pub fn judge_rows(alloc: Global, bytes: &Option<Text>) -> Result<Judged<SetupRow
 }
 
 /// What a counters file is judged as.
-pub fn judge_counters(alloc: Global, bytes: &Option<Text>) -> Result<Judged<CounterRows>, NoMemory>
+pub(crate) fn judge_counters(
+    alloc: Global,
+    bytes: &Option<Text>,
+) -> Result<Judged<CounterRows>, NoMemory>
     ensures { IfOk result (IsFileJudged counters_of_table counters_key_words bytes.now) }
 {
     let Some(bytes) = bytes else {

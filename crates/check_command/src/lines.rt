@@ -72,7 +72,7 @@ pub(crate) fn append_lines(out: &mut Vec<u8>, file: &FileTold<'_>) -> Result<(),
 }
 
 /// The lines of these files.
-pub fn lines_of(alloc: Global, files: &[FileTold<'_>]) -> Result<Vec<u8>, NoMemory>
+pub(crate) fn lines_of(alloc: Global, files: &[FileTold<'_>]) -> Result<Vec<u8>, NoMemory>
     ensures { IfOk result (λ text. text.items ≡ lines.lines_of files.now) }
 {
     let mut text = Vec::new(alloc);
@@ -89,7 +89,7 @@ pub(crate) fn are_taken(files: &[FileTold<'_>]) -> bool
 }
 
 /// The status: 0 where each file is taken, else 3.
-pub fn status_of(files: &[FileTold<'_>]) -> u8
+pub(crate) fn status_of(files: &[FileTold<'_>]) -> u8
     ensures status { result ≡ lines.status_of files.now }
     ensures values { (result ≡ 0) ⊎ (result ≡ 3) }
 {

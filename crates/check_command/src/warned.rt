@@ -10,7 +10,7 @@ use refusal_words::append_warning;
 use std::alloc::Global;
 
 /// No warnings.
-pub fn no_warnings(alloc: Global) -> Texts
+pub(crate) fn no_warnings(alloc: Global) -> Texts
     ensures { result ≡ [] }
 {
     Items::from_vec(Vec::new(alloc))
@@ -35,7 +35,7 @@ fn texts_of(alloc: Global, warnings: &[Warning]) -> Result<Texts, NoMemory>
 }
 
 /// The warnings of a guide, in words. The only error is out of memory.
-pub fn warning_texts(alloc: Global, guide: &Guide) -> Result<Texts, NoMemory>
+pub(crate) fn warning_texts(alloc: Global, guide: &Guide) -> Result<Texts, NoMemory>
     ensures { IfOk result (λ texts. texts ≡ map warning_words (warnings_of (guide_of guide.now))) }
 {
     let warnings = warnings_of(alloc, guide)?;

@@ -52,7 +52,7 @@ fn in_target_order<'d>(
 }
 
 /// Adds what is reported of a target that is needed and has no use.
-pub fn add_left_out<'a>(
+pub(crate) fn add_left_out<'a>(
     faults: &mut Vec<Fault<'a>>,
     nodes: &'a [Node],
     end: u64,
@@ -123,7 +123,7 @@ fn find_broken<'a>(
 }
 
 /// What is wrong by dependencies, where placed segments are in the order of labels.
-pub fn find_faults<'a>(
+pub(crate) fn find_faults<'a>(
     alloc: Global,
     nodes: &'a [Node],
     delims: Delims,

@@ -11,7 +11,7 @@ use hub_kinds::{ElemFault, ElementCode, Fault, Lent, NO_NUMBER, SegmentCode};
 use loop_match::{PlacedSeg, text_at};
 
 /// What is reported of a slot that is needed and isn't used.
-pub fn unused_fault<'a>(end: u64, seat: &GuideSeat<'a>) -> Fault<'a>
+pub(crate) fn unused_fault<'a>(end: u64, seat: &GuideSeat<'a>) -> Fault<'a>
     ensures { result ≡ unused_fault end (seat_view seat.now) }
 {
     Fault {
@@ -61,7 +61,11 @@ fn element_fault<'a>(
 }
 
 /// What is reported of a use that breaks a dependency of this kind, which speaks of an element, or at 0 of the whole slot.
-pub fn told_of<'a>(kind: DependencyKind, element: u32, placed: &PlacedSeg<'_, 'a, 'a>) -> Fault<'a>
+pub(crate) fn told_of<'a>(
+    kind: DependencyKind,
+    element: u32,
+    placed: &PlacedSeg<'_, 'a, 'a>,
+) -> Fault<'a>
     ensures { result ≡ told_of kind element (placed_view placed.now) }
 {
     match kind {

@@ -77,7 +77,7 @@ fn add_found<'a>(
 }
 
 /// What is wrong by dependencies, each of which looks at all segments: for so few that no order pays.
-pub fn find_few<'a>(
+pub(crate) fn find_few<'a>(
     alloc: Global,
     nodes: &'a [Node],
     delims: Delims,

@@ -33,14 +33,14 @@ fn has_a_label(slot: &Slot) -> bool
 }
 
 /// Lets go of the uses of slots without a label, which no dependency names.
-pub fn keep_labelled(placed: &mut Vec<PlacedSeg>)
+pub(crate) fn keep_labelled(placed: &mut Vec<PlacedSeg>)
     ensures { placed_views placed.new.items ≡ filter is_labelled (placed_views placed.old.items) }
 {
     placed.retain(|one| has_a_label(one.slot));
 }
 
 /// Brings placed segments into the order of their slots' labels, so that the uses of a slot are side by side.
-pub fn sort_by_label(placed: &mut Vec<PlacedSeg>)
+pub(crate) fn sort_by_label(placed: &mut Vec<PlacedSeg>)
     ensures same { (p : PlacedSegment) → Contains (placed_views placed.new.items) p ↔ Contains (placed_views placed.old.items) p }
     ensures sorted { AreByLabel placed.new.items }
 {
@@ -61,7 +61,7 @@ fn is_not_behind(label: &[u8], placed: &PlacedSeg) -> bool
 
 /// The uses of the slot with a label, among segments in the order of labels. Its clause asks that they are among what is given and
 /// that none is left out; that no others are is a matter of cost alone, since what is asked of them looks at the label again.
-pub fn uses_of<'x, 's, 'a, 'g>(
+pub(crate) fn uses_of<'x, 's, 'a, 'g>(
     label: &[u8],
     placed: &'x [PlacedSeg<'s, 'a, 'g>],
 ) -> &'x [PlacedSeg<'s, 'a, 'g>]

@@ -13,7 +13,11 @@ pub struct GuideSeat<'g> {
 }
 
 /// The first slot of nodes in a loop that has a label.
-pub fn seat_among<'g>(outer: &'g [u8], nodes: &'g [Node], label: &[u8]) -> Option<GuideSeat<'g>>
+pub(crate) fn seat_among<'g>(
+    outer: &'g [u8],
+    nodes: &'g [Node],
+    label: &[u8],
+) -> Option<GuideSeat<'g>>
     ensures { option_map seat_view result ≡ seat_among outer.entry.now label.now (nodes_view nodes.entry.now) }
 {
     for node in nodes {

@@ -47,7 +47,7 @@ fn texts_in<'a>(
 }
 
 /// The texts of segments that are in the order of labels.
-pub fn texts_of<'a>(
+pub(crate) fn texts_of<'a>(
     alloc: Global,
     label: &[u8],
     at: u32,
@@ -90,7 +90,7 @@ fn share(texts: &BTreeSet<&[u8]>, codes: &Codes) -> bool
 }
 
 /// Whether one of a dependency's codes is among the texts that trigger it.
-pub fn has_code(dependency: &Dependency, texts: &BTreeSet<&[u8]>) -> bool
+pub(crate) fn has_code(dependency: &Dependency, texts: &BTreeSet<&[u8]>) -> bool
     ensures { (ps : List PlacedSegment) → KnowsTexts texts.now dependency.now.slot dependency.now.at ps
         → result ≡ is_dependency_triggered dependency.now ps }
 {

@@ -90,7 +90,7 @@ fn add_triggered<'d>(
 }
 
 /// The dependencies that are triggered by segments in the order of labels.
-pub fn triggered<'d>(
+pub(crate) fn triggered<'d>(
     alloc: Global,
     placed: &[PlacedSeg],
     depends: &'d [Dependency],

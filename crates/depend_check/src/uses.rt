@@ -12,7 +12,7 @@ use loop_match::{PlacedSeg, text_at};
 use x12_bytes::Delims;
 
 /// Whether a segment is a use of the slot with a label.
-pub fn is_use(label: &[u8], placed: &PlacedSeg) -> bool
+pub(crate) fn is_use(label: &[u8], placed: &PlacedSeg) -> bool
     ensures { result ≡ is_use label.now (placed_view placed.now) }
 {
     placed.slot.has_label(label)
@@ -32,7 +32,7 @@ fn is_used(label: &[u8], placed: &[PlacedSeg]) -> bool
 }
 
 /// Whether the target as a whole is needed, and has no use.
-pub fn is_left_out(dependency: &Dependency, placed: &[PlacedSeg]) -> bool
+pub(crate) fn is_left_out(dependency: &Dependency, placed: &[PlacedSeg]) -> bool
     ensures { result ≡ is_left_out dependency.now.target dependency.now.kind dependency.now.element (placed_views placed.now) }
 {
     match dependency.kind {
@@ -72,7 +72,7 @@ fn add_use<'a>(
 }
 
 /// Adds what the segments break of a dependency that is triggered.
-pub fn add_uses<'a>(
+pub(crate) fn add_uses<'a>(
     faults: &mut Vec<Fault<'a>>,
     delims: Delims,
     dependency: &Dependency,

@@ -97,7 +97,7 @@ pub fn line_of(
 }
 
 /// Adds the line of `difference`, of guides whose nodes have the paths `old` and `new`.
-pub fn append_line(
+pub(crate) fn append_line(
     alloc: Global,
     out: &mut Vec<u8>,
     old: &[Text],

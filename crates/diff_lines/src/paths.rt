@@ -78,7 +78,7 @@ pub fn paths_of(alloc: Global, nodes: &[Node]) -> Result<Vec<Text>, NoMemory>
 }
 
 /// The path of the node with a number from 1 on.
-pub fn path_at(paths: &[Text], number: u32) -> &[u8]
+pub(crate) fn path_at(paths: &[Text], number: u32) -> &[u8]
     ensures { result.now ≡ path_at paths.entry.now number }
 {
     match paths.get((number as usize).saturating_sub(1)) {

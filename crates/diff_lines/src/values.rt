@@ -7,7 +7,7 @@ use hub_kinds::NoMemory;
 use itoa::Buffer;
 
 /// Adds `text` to `out`.
-pub fn append(out: &mut Vec<u8>, text: &[u8]) -> Result<(), NoMemory>
+pub(crate) fn append(out: &mut Vec<u8>, text: &[u8]) -> Result<(), NoMemory>
     ensures { OnOk result (out.new.items ≡ out.old.items ++ text.now) }
 {
     out.extend_from_slice(text)?;
@@ -15,7 +15,7 @@ pub fn append(out: &mut Vec<u8>, text: &[u8]) -> Result<(), NoMemory>
 }
 
 /// Adds `number` to `out`.
-pub fn append_number(out: &mut Vec<u8>, number: u64) -> Result<(), NoMemory>
+pub(crate) fn append_number(out: &mut Vec<u8>, number: u64) -> Result<(), NoMemory>
     ensures { OnOk result (out.new.items ≡ out.old.items ++ decimal number) }
 {
     let mut digits = Buffer::new();
@@ -70,7 +70,7 @@ fn append_uses(out: &mut Vec<u8>, min: u32, max: u32) -> Result<(), NoMemory>
 }
 
 /// Adds what one of two guides says of `key`.
-pub fn append_value(out: &mut Vec<u8>, key: Key, value: &Value) -> Result<(), NoMemory>
+pub(crate) fn append_value(out: &mut Vec<u8>, key: Key, value: &Value) -> Result<(), NoMemory>
     ensures { OnOk result (out.new.items ≡ out.old.items ++ words.value_text key value.now) }
 {
     match value {

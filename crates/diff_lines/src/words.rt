@@ -4,7 +4,7 @@ ghost use Rattle.diff_lines.specs.Words as words;
 use guide_widening::{Change, Key};
 
 /// What a difference does to the sets that meet the guide, in a word.
-pub fn change_text(change: Change) -> &'static [u8]
+pub(crate) fn change_text(change: Change) -> &'static [u8]
     ensures { result.now ≡ words.change_text change }
 {
     match change {
@@ -15,7 +15,7 @@ pub fn change_text(change: Change) -> &'static [u8]
 }
 
 /// What two guides say otherwise, in a word.
-pub fn key_text(key: Key) -> &'static [u8]
+pub(crate) fn key_text(key: Key) -> &'static [u8]
     ensures { result.now ≡ words.key_text key }
 {
     match key {

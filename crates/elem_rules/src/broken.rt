@@ -114,7 +114,11 @@ fn with_condition(
 }
 
 /// The positions at which some of the conditions is broken, by the bits of the elements that are present.
-pub fn broken_by(alloc: Global, present: u64, conditions: &[Condition]) -> Result<Broken, NoMemory>
+pub(crate) fn broken_by(
+    alloc: Global,
+    present: u64,
+    conditions: &[Condition],
+) -> Result<Broken, NoMemory>
     requires { All (λ c. All (λ p. p < 64) c.positions) conditions.now }
     ensures missing { IfOk result
         (λ broken. AreBits broken.missing (flat_map (missing_at (is_set present)) conditions.now)) }

@@ -233,7 +233,7 @@ fn fits_slot(seg: &SegView, slot: &Slot, narrow: bool) -> bool
 
 /// A quick look at a segment, without memory: `true` only where no element has a fault. A clean segment with component or
 /// repetition separators may be answered with `false`.
-pub fn is_clean(seg: &SegView, slot: &Slot) -> bool
+pub(crate) fn is_clean(seg: &SegView, slot: &Slot) -> bool
     requires bounded { IsTrue (is_slot_bounded slot.now) }
     requires conditions { IsTrue (list_all (is_condition_of slot.now) slot.now.conditions) }
     ensures { OnTrue result ((f : ElemFault) → IsElementFault seg.now.delims (elements_of seg.now) slot.now f → ⊥) }

@@ -93,7 +93,7 @@ fn add_each<'a>(
 }
 
 /// Adds the faults of relational conditions, each once for a position and a code, however many conditions are broken there.
-pub fn check_conditions<'a>(
+pub(crate) fn check_conditions<'a>(
     alloc: Global,
     found: &mut Findings<'a>,
     of: &Elements<'_, 'a>,

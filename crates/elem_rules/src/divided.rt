@@ -18,7 +18,7 @@ pub fn is_empty(delims: Delims, text: &[u8]) -> bool
 }
 
 /// Whether there are more than `n` parts: one after the first `n` isn't empty.
-pub fn has_more(delims: Delims, n: usize, parts: Parts) -> bool
+pub(crate) fn has_more(delims: Delims, n: usize, parts: Parts) -> bool
     ensures { result ≡ has_more delims n parts.entry }
 {
     parts.skip(n).any(|part| !is_empty(delims, part))

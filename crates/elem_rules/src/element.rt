@@ -69,7 +69,7 @@ fn whole_fault(delims: Delims, row: &Element, text: &[u8]) -> Option<ElementCode
 }
 
 /// The reference number of an element's row.
-pub fn element_reference(row: &Element) -> &[u8]
+pub(crate) fn element_reference(row: &Element) -> &[u8]
     ensures { result.now ≡ element_reference row.now }
 {
     match row {
@@ -146,7 +146,7 @@ fn check_composite_occurrences<'a>(
 }
 
 /// Adds what is wrong in an element, by its row.
-pub fn check_element<'a>(
+pub(crate) fn check_element<'a>(
     found: &mut Findings<'a>,
     at: &Subject<'a>,
     row: &'a Element,

@@ -24,7 +24,7 @@ fn mask_of(positions: &[u32]) -> u64
 }
 
 /// A condition as masks.
-pub fn flat_condition_of(condition: &Condition) -> FlatCondition
+pub(crate) fn flat_condition_of(condition: &Condition) -> FlatCondition
     requires few { All (λ p. p < 64) condition.now.positions }
     requires distinct { IsTrue (is_distinct condition.now.positions) }
     ensures { IsFlatCondition result condition.now }
@@ -55,7 +55,7 @@ fn is_single(bits: u64) -> bool
 
 /// Whether a condition holds, by the bits of the elements that are present.
 #[inline(always)]
-pub fn holds_flat(condition: &FlatCondition, bits: u64) -> bool
+pub(crate) fn holds_flat(condition: &FlatCondition, bits: u64) -> bool
     ensures { result ≡ holds_by condition.now.relation condition.now.first condition.now.rest bits }
 {
     let rest = bits & condition.rest;

@@ -109,7 +109,7 @@ fn is_listed(row: &FlatRow, numbers: &[u32], text: &[u8]) -> bool
 
 /// Whether a value of characters from space to tilde surely has no fault by the row whose flat row this is.
 #[inline(always)]
-pub fn is_sure(row: &FlatRow, numbers: &[u32], text: &[u8]) -> bool
+pub(crate) fn is_sure(row: &FlatRow, numbers: &[u32], text: &[u8]) -> bool
     ensures { result ≡ is_sure row.now numbers.now text.now }
 {
     match row.kind {
@@ -175,7 +175,7 @@ fn push_numbers(numbers: &mut Vec<u32>, codes: &[Text]) -> Result<(), NoMemory>
 
 /// A row as a flat row. The numbers of its codes, where they are few, are added to a table, which may grow.
 #[tactic(auto, using(crate::proofs::FlatRows::grown_none))]
-pub fn flat_of(row: &SimpleRow, numbers: &mut Vec<u32>) -> Result<FlatRow, NoMemory>
+pub(crate) fn flat_of(row: &SimpleRow, numbers: &mut Vec<u32>) -> Result<FlatRow, NoMemory>
     ensures flat { IfOk result (λ flat. IsFlatOf flat numbers.new.items row.now) }
     ensures grown { IfOk result (λ _. IsGrown numbers.old.items numbers.new.items) }
 {

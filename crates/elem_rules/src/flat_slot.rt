@@ -33,7 +33,7 @@ pub struct FlatSlot {
 }
 
 /// A flat slot without rows.
-pub fn no_rows(alloc: Global) -> FlatSlot {
+pub(crate) fn no_rows(alloc: Global) -> FlatSlot {
     FlatSlot {
         rows: Vec::new(alloc),
         numbers: Vec::new(alloc),
@@ -106,7 +106,7 @@ fn must_of(rows: &[Element]) -> u64
 }
 
 /// The rows and conditions of a slot as few numbers.
-pub fn flat_slot_of(alloc: Global, slot: &Slot) -> Result<FlatSlot, NoMemory>
+pub(crate) fn flat_slot_of(alloc: Global, slot: &Slot) -> Result<FlatSlot, NoMemory>
     requires { IsSound slot.now }
     ensures { IfOk result (λ flat. IsFlatSlot flat slot.now) }
 {

@@ -9,7 +9,7 @@ use guide_tree::ElementType;
 use moment::is_digits;
 
 /// Whether a byte is a character of a text: from space to tilde, and from 0x80 on where `wide` is true (X12.6, string data element types).
-pub fn is_character(byte: u8, wide: bool) -> bool
+pub(crate) fn is_character(byte: u8, wide: bool) -> bool
     ensures { result ≡ is_character wide byte }
 {
     matches!(byte, b' '..=b'~') || (wide && byte >= 0x80)
@@ -43,7 +43,7 @@ fn without_sign(text: &[u8]) -> &[u8]
 }
 
 /// Whether a text is a whole number without sign: one or more digits, and nothing else (X12.6, N).
-pub fn is_whole(text: &[u8]) -> bool
+pub(crate) fn is_whole(text: &[u8]) -> bool
     ensures { result ≡ is_whole text.now }
 {
     !text.is_empty() && is_digits(text)
@@ -94,7 +94,12 @@ fn whole_digits(text: &[u8]) -> Option<usize>
 
 /// The length of a value, where it has the bytes and the form that its type allows: its bytes, or the digits of a number,
 /// whose sign and point don't count. Where `narrow` is true, its bytes are known to be characters from space to tilde.
-pub fn measured(data_type: ElementType, wide: bool, text: &[u8], narrow: bool) -> Option<usize>
+pub(crate) fn measured(
+    data_type: ElementType,
+    wide: bool,
+    text: &[u8],
+    narrow: bool,
+) -> Option<usize>
     requires { OnTrue narrow (list_any is_strange text.now ≡ false) }
     ensures { result ≡ if is_form data_type wide text.now then Some (value_length data_type text.now) else None }
 {

@@ -52,7 +52,7 @@ impl<'a> Occurrence<'a> {
 }
 
 /// The code for an element or a component that is missing, where it is mandatory.
-pub fn missing_fault(requirement: Requirement) -> Option<ElementCode>
+pub(crate) fn missing_fault(requirement: Requirement) -> Option<ElementCode>
     ensures { result ≡ missing_fault requirement }
 {
     match requirement {
@@ -91,7 +91,7 @@ fn component_reference(row: &Component) -> &[u8]
 }
 
 /// Adds what is wrong in an occurrence of a simple element, which is one component.
-pub fn check_simple<'a>(
+pub(crate) fn check_simple<'a>(
     found: &mut Findings<'a>,
     at: &Occurrence<'a>,
     row: &'a SimpleRow,
@@ -124,7 +124,7 @@ pub fn check_simple<'a>(
 }
 
 /// Adds what is wrong in an occurrence of a composite element.
-pub fn check_composite<'a>(
+pub(crate) fn check_composite<'a>(
     found: &mut Findings<'a>,
     at: &Occurrence<'a>,
     row: &'a CompositeRow,

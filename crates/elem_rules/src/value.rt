@@ -34,14 +34,14 @@ fn calendar_fault(data_type: ElementType, text: &[u8]) -> Option<ElementCode>
 }
 
 /// The first fault of a value that isn't empty: its form, its length, its code, its date or time (999 guide, IK403).
-pub fn value_fault(row: &SimpleRow, text: &[u8]) -> Option<ElementCode>
+pub(crate) fn value_fault(row: &SimpleRow, text: &[u8]) -> Option<ElementCode>
     ensures { result ≡ value_fault row.now text.now }
 {
     value_fault_by(row, text, false)
 }
 
 /// What is wrong with a value; where `narrow` is true, its bytes are known to be characters from space to tilde.
-pub fn value_fault_by(row: &SimpleRow, text: &[u8], narrow: bool) -> Option<ElementCode>
+pub(crate) fn value_fault_by(row: &SimpleRow, text: &[u8], narrow: bool) -> Option<ElementCode>
     requires { OnTrue narrow (list_any is_strange text.now ≡ false) }
     ensures { result ≡ value_fault row.now text.now }
 {

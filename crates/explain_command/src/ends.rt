@@ -61,7 +61,7 @@ fn is_response(segment: &SegView<'_>) -> bool
 
 /// Whether a text, read by these delimiters, has the response to a set that a 997 has.
 #[tactic(auto, using(night_equal::proofs::ForAbove::segments_are))]
-pub fn has_response(text: &[u8], delims: Delims) -> bool
+pub(crate) fn has_response(text: &[u8], delims: Delims) -> bool
     ensures { result ≡ list_any ends.is_response (segments_in delims text.now) }
 {
     for segment in segments(text, delims) {
@@ -115,7 +115,7 @@ fn is_set(segment: &SegView<'_>) -> bool
 
 /// The id of the first set of a text, read by these delimiters, if that isn't an acknowledgment.
 #[tactic(auto, using(night_equal::proofs::ForAbove::segments_are))]
-pub fn other_set(text: &[u8], delims: Delims) -> Option<SetId>
+pub(crate) fn other_set(text: &[u8], delims: Delims) -> Option<SetId>
     ensures { result ≡ ends.other_in (segments_in delims text.now) }
 {
     for segment in segments(text, delims) {
@@ -127,7 +127,7 @@ pub fn other_set(text: &[u8], delims: Delims) -> Option<SetId>
 }
 
 /// Where a text is cut off, read by the delimiters of its first header.
-pub fn cut_of(text: &[u8], delims: Delims) -> Option<CutOff>
+pub(crate) fn cut_of(text: &[u8], delims: Delims) -> Option<CutOff>
     requires { delims ≡ first_delims text.now }
     ensures { result ≡ ends.cut_of text.now }
 {

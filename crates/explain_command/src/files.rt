@@ -108,7 +108,7 @@ fn told_of<'a, I: Read + Drop>(
 }
 
 /// What is reported of the files at these paths, in their order. The only error is out of memory.
-pub fn tell_files<'a, R: Files + AllocGlobal>(
+pub(crate) fn tell_files<'a, R: Files + AllocGlobal>(
     rt: &R,
     names: &Names,
     paths: &[&'a str],
@@ -180,7 +180,11 @@ fn append_file(
 }
 
 /// The lines on files.
-pub fn lines_of(alloc: Global, several: bool, files: &[FileTold<'_>]) -> Result<Vec<u8>, NoMemory>
+pub(crate) fn lines_of(
+    alloc: Global,
+    several: bool,
+    files: &[FileTold<'_>],
+) -> Result<Vec<u8>, NoMemory>
     ensures { IfOk result (λ text. text.items ≡ reports.lines_of several files.now) }
 {
     let mut text = Vec::new(alloc);
@@ -203,7 +207,7 @@ fn are_whole(files: &[FileTold<'_>]) -> bool
 }
 
 /// The status: 0 where each file is explained, and whole, else 4.
-pub fn status_of(files: &[FileTold<'_>]) -> u8
+pub(crate) fn status_of(files: &[FileTold<'_>]) -> u8
     ensures status { result ≡ reports.status_of files.now }
     ensures values { (result ≡ 0) ⊎ (result ≡ 4) }
 {
@@ -283,7 +287,7 @@ fn append_failure(out: &mut Vec<u8>, several: bool, file: &FileTold<'_>) -> Resu
 }
 
 /// The lines of standard error on files that are cut off or refused, in the order of the files.
-pub fn failure_lines(
+pub(crate) fn failure_lines(
     alloc: Global,
     several: bool,
     files: &[FileTold<'_>],

@@ -14,7 +14,7 @@ fn is_needed(node: &Node) -> bool
 }
 
 /// How many of the first nodes are needed: of none of them, of one, and so on up to all.
-pub fn needed_counts(alloc: Global, nodes: &[Node]) -> Result<Vec<usize>, NoMemory>
+pub(crate) fn needed_counts(alloc: Global, nodes: &[Node]) -> Result<Vec<usize>, NoMemory>
     ensures { IfOk result (λ counts. counts.items ≡ counts_from 0 nodes.now) }
 {
     let mut counts = Vec::new(alloc);
@@ -30,7 +30,7 @@ pub fn needed_counts(alloc: Global, nodes: &[Node]) -> Result<Vec<usize>, NoMemo
 }
 
 /// How much a count grows from one place to another.
-pub fn count_between(counts: &[usize], from: usize, to: usize) -> usize
+pub(crate) fn count_between(counts: &[usize], from: usize, to: usize) -> usize
     requires order { from ≤ to }
     requires bound { to < length counts.now }
     requires rising { slice_index_or counts.now from 0 ≤ slice_index_or counts.now to 0 }

@@ -53,14 +53,14 @@ fn number_before(separator: u8, text: &[u8]) -> u32
 
 /// The number of a segment's id.
 #[inline]
-pub fn number_of(seg: &SegView) -> u32
+pub(crate) fn number_of(seg: &SegView) -> u32
     ensures { HasNumber (elements_of seg.now) result }
 {
     number_before(seg.delims().element, seg.bytes())
 }
 
 /// The numbers of the ids that nodes begin with.
-pub fn begin_numbers(alloc: Global, nodes: &[Node]) -> Result<Vec<u32>, NoMemory>
+pub(crate) fn begin_numbers(alloc: Global, nodes: &[Node]) -> Result<Vec<u32>, NoMemory>
     ensures { IfOk result (λ numbers. numbers.items ≡ begin_numbers nodes.now) }
 {
     let mut numbers = Vec::new(alloc);

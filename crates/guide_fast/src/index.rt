@@ -66,7 +66,7 @@ fn list_of(alloc: Global, found: Option<Vec<usize>>) -> Vec<usize>
 }
 
 /// Those of a text's places that are at or after a place.
-pub fn places_from(all: &[usize], from: usize) -> &[usize]
+pub(crate) fn places_from(all: &[usize], from: usize) -> &[usize]
     ensures { (text : List ℕ) (texts : List (List ℕ)) → from ≤ length texts → all.entry.now ≡ places_of text 0 texts
         → result.now ≡ places_of text from (drop from texts) }
 {

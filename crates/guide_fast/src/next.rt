@@ -44,7 +44,11 @@ fn turn_here<'g>(
 }
 
 /// The child with a place among a parent's nodes.
-pub fn node_at<'g>(tables: &[Children<'g>], here: &Children<'g>, child: usize) -> Option<&'g Node>
+pub(crate) fn node_at<'g>(
+    tables: &[Children<'g>],
+    here: &Children<'g>,
+    child: usize,
+) -> Option<&'g Node>
     requires { HasTables (trees_in tables.now) (nodes_view here.now) }
     ensures tables { IfSome result (λ n. HasTablesIn (trees_in tables.now) (view n.now)) }
     ensures outside { IfNone result (length here.now ≤ child) }
@@ -59,7 +63,7 @@ pub fn node_at<'g>(tables: &[Children<'g>], here: &Children<'g>, child: usize) -
 }
 
 /// The table of a loop's nodes; none of a segment.
-pub fn table_of<'t, 'g>(tables: &'t [Children<'g>], node: &Node) -> Option<&'t Children<'g>>
+pub(crate) fn table_of<'t, 'g>(tables: &'t [Children<'g>], node: &Node) -> Option<&'t Children<'g>>
     requires { HasTablesIn (trees_in tables.now) (view node.now) }
     ensures tables { IfSome result (λ c. HasTables (trees_in tables.entry.now) (nodes_view c.now)) }
     ensures shape { MatchOption result ((x : Slot) × (view node.now ≡ segment x))
@@ -107,7 +111,7 @@ fn turn_among<'g>(
 }
 
 /// The turn from the last place, or from the beginning, to the place that the segment is given, by the tables and the first of them.
-pub fn turn_behind<'g>(
+pub(crate) fn turn_behind<'g>(
     tables: &[Children<'g>],
     top: &Children<'g>,
     last: &[Step],

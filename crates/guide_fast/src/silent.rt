@@ -154,7 +154,7 @@ fn is_again_silent<'t, 'g>(
 }
 
 /// Whether nothing is reported from a place among the nodes of one parent to one that follows it.
-pub fn is_stepped_silent<'t, 'g>(
+pub(crate) fn is_stepped_silent<'t, 'g>(
     tables: &'t [Children<'g>],
     here: &'t Children<'g>,
     last: &[Step],
@@ -190,7 +190,7 @@ pub fn is_stepped_silent<'t, 'g>(
 }
 
 /// Whether nothing is reported at a segment that is placed, from the last place, or from the beginning where it has no step.
-pub fn is_silent<'t, 'g>(
+pub(crate) fn is_silent<'t, 'g>(
     tables: &'t [Children<'g>],
     top: &'t Children<'g>,
     last: &[Step],
@@ -211,7 +211,7 @@ pub fn is_silent<'t, 'g>(
 }
 
 /// Whether nothing is reported after the body.
-pub fn is_end_silent<'t, 'g>(
+pub(crate) fn is_end_silent<'t, 'g>(
     tables: &'t [Children<'g>],
     top: &'t Children<'g>,
     last: &[Step],

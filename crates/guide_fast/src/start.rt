@@ -41,7 +41,7 @@ fn start_at<'g>(into_loop: bool, slot: &'g Slot, number: u32, seg: &SegView) -> 
 
 /// The start of a node whose first id has the same number as the segment's, if the segment fits it.
 #[inline]
-pub fn start_with<'g>(node: &'g Node, number: u32, seg: &SegView) -> Option<Start<'g>>
+pub(crate) fn start_with<'g>(node: &'g Node, number: u32, seg: &SegView) -> Option<Start<'g>>
     requires segment { HasNumber (elements_of seg.now) number }
     requires node { number ≡ begin_number node.now }
     ensures { option_map started result ≡ fit_start (elements_of seg.now) (view node.entry.now) }
@@ -57,7 +57,12 @@ pub fn start_with<'g>(node: &'g Node, number: u32, seg: &SegView) -> Option<Star
 
 /// The start of a node whose first id has a number of its own, if the segment fits it.
 #[inline]
-pub fn start_here<'g>(node: &'g Node, own: u32, number: u32, seg: &SegView) -> Option<Start<'g>>
+pub(crate) fn start_here<'g>(
+    node: &'g Node,
+    own: u32,
+    number: u32,
+    seg: &SegView,
+) -> Option<Start<'g>>
     requires segment { HasNumber (elements_of seg.now) number }
     requires node { own ≡ begin_number node.now }
     ensures { option_map started result ≡ fit_start (elements_of seg.now) (view node.entry.now) }
@@ -70,7 +75,7 @@ pub fn start_here<'g>(node: &'g Node, own: u32, number: u32, seg: &SegView) -> O
 
 /// The start of a node, where by the first pick of its first slot a segment that it surely doesn't pick is passed over.
 #[inline]
-pub fn start_picked<'g>(
+pub(crate) fn start_picked<'g>(
     node: &'g Node,
     own: u32,
     pick: FirstPick,
@@ -95,7 +100,7 @@ pub fn start_picked<'g>(
 }
 
 /// The start of a node, where nothing is known of the numbers of ids.
-pub fn start_asked<'g>(
+pub(crate) fn start_asked<'g>(
     node: &'g Node,
     pick: FirstPick,
     asked: &mut Asked,
@@ -114,7 +119,7 @@ pub fn start_asked<'g>(
 
 /// The turn to a node's next use, if the segment fits its start; none of a loop's first node.
 #[inline]
-pub fn again_here<'g>(
+pub(crate) fn again_here<'g>(
     node: &'g Node,
     own: u32,
     in_loop: bool,

@@ -28,7 +28,7 @@ fn add_tables<'g>(
 }
 
 /// The tables of a guide's nodes: at 0 of the nodes themselves, and at each loop's number of its nodes.
-pub fn tables_of<'g>(alloc: Global, nodes: &'g [Node]) -> Result<Vec<Children<'g>>, NoMemory>
+pub(crate) fn tables_of<'g>(alloc: Global, nodes: &'g [Node]) -> Result<Vec<Children<'g>>, NoMemory>
     ensures { IfOk result (λ tables. trees_in tables.items ≡ tables_of (nodes_view nodes.entry.now)) }
 {
     let mut tables = Vec::new(alloc);

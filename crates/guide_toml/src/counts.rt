@@ -4,7 +4,7 @@ ghost use Rattle.guide_toml.specs.Counts.{count_of};
 use toml_keys::GREATEST_NUMBER;
 
 /// The number that one or more digits write, at most `GREATEST_NUMBER`; leading zeros are allowed.
-pub fn count_of(digits: &[u8]) -> Option<u32>
+pub(crate) fn count_of(digits: &[u8]) -> Option<u32>
     ensures { result ≡ count_of digits.now }
 {
     if digits.is_empty() {

@@ -22,7 +22,9 @@ pub struct Measure {
 }
 
 /// The first token, and those after it.
-pub fn next_token<'a, 't>(tokens: &'t [Lent<'a>]) -> Result<(&'a [u8], &'t [Lent<'a>]), TextFault>
+pub(crate) fn next_token<'a, 't>(
+    tokens: &'t [Lent<'a>],
+) -> Result<(&'a [u8], &'t [Lent<'a>]), TextFault>
     ensures { Reads (λ x. (x.0.now, x.1.now)) result (texts.next_token tokens.now) }
 {
     match tokens.split_first() {
@@ -118,7 +120,7 @@ pub(crate) fn take_wide<'a, 't>(tokens: &'t [Lent<'a>]) -> (bool, &'t [Lent<'a>]
 }
 
 /// The codes of these tokens.
-pub fn codes_in(alloc: Global, tokens: &[Lent]) -> Result<Codes, TextFault>
+pub(crate) fn codes_in(alloc: Global, tokens: &[Lent]) -> Result<Codes, TextFault>
     ensures { Reads (λ x. x) result (Some tokens.now) }
 {
     let texts = texts_of(alloc, tokens).map_err(|_| TextFault::NoMemory)?;
@@ -378,14 +380,14 @@ fn element_of_tokens(alloc: Global, tokens: &[Lent]) -> Result<Element, TextFaul
 }
 
 /// The parts of a text between single spaces.
-pub fn tokens_in(alloc: Global, text: &[u8]) -> Result<Vec<Lent<'_>>, TextFault>
+pub(crate) fn tokens_in(alloc: Global, text: &[u8]) -> Result<Vec<Lent<'_>>, TextFault>
     ensures { Reads (λ v. v.items) result (Some (tokens_of text.now)) }
 {
     tokens_of(alloc, text).map_err(|_| TextFault::NoMemory)
 }
 
 /// The row that a text writes.
-pub fn element_of(alloc: Global, text: &[u8]) -> Result<Element, TextFault>
+pub(crate) fn element_of(alloc: Global, text: &[u8]) -> Result<Element, TextFault>
     ensures { Reads (λ x. x) result (texts.element_of_text text.now) }
 {
     let tokens = tokens_in(alloc, text)?;

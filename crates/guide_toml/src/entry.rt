@@ -109,7 +109,7 @@ fn pair_of(alloc: Global, text: &[u8]) -> Result<HlPair, TextFault>
 }
 
 /// Whether a text has a form.
-pub fn has_form(form: Form, text: &[u8]) -> bool
+pub(crate) fn has_form(form: Form, text: &[u8]) -> bool
     ensures { result ≡ entries.has_form form text.now }
 {
     match form {

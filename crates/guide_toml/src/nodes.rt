@@ -187,7 +187,7 @@ fn push_node(nodes: &mut Vec<Node>, node: Node) -> Result<(), GuideFileFault>
 
 /// The nodes of a list of tables; `next` is the number of the first, and then the number after what is in the last.
 #[cycle(nodes)]
-pub fn nodes_of(
+pub(crate) fn nodes_of(
     alloc: Global,
     values: &[Value],
     next: &mut u32,

@@ -21,14 +21,18 @@ use toml::Table;
 use toml_keys::{AnyText, Count, ListOf, Present, Word, optional, refuse_unknown, required};
 
 /// Refuses the least key that a table of the kind may not have.
-pub fn refuse_unlisted(alloc: Global, table: &Table, kind: TableKind) -> Result<(), GuideFileFault>
+pub(crate) fn refuse_unlisted(
+    alloc: Global,
+    table: &Table,
+    kind: TableKind,
+) -> Result<(), GuideFileFault>
     ensures { Gives (λ x. x) result (if_known (least_unknown (keys_of kind) (table_view table.now)) (Ok tt)) }
 {
     Ok(refuse_unknown(alloc, table, kind.keys())?)
 }
 
 /// A text of that many to that many letters or digits.
-pub fn word_at(
+pub(crate) fn word_at(
     alloc: Global,
     table: &Table,
     key: &'static str,
@@ -41,7 +45,7 @@ pub fn word_at(
 }
 
 /// The text at a key that may be absent.
-pub fn some_word_at(
+pub(crate) fn some_word_at(
     alloc: Global,
     table: &Table,
     key: &'static str,
@@ -54,35 +58,51 @@ pub fn some_word_at(
 }
 
 /// A functional identifier code, not that of acknowledgments.
-pub fn group_at(alloc: Global, table: &Table, key: &'static str) -> Result<Text, GuideFileFault>
+pub(crate) fn group_at(
+    alloc: Global,
+    table: &Table,
+    key: &'static str,
+) -> Result<Text, GuideFileFault>
     ensures { Gives (λ x. x) result (tables.required values.group_in key.now (table_view table.now)) }
 {
     Ok(required(alloc, table, key, &GroupCode)?)
 }
 
 /// Any text.
-pub fn text_at(alloc: Global, table: &Table, key: &'static str) -> Result<Text, GuideFileFault>
+pub(crate) fn text_at(
+    alloc: Global,
+    table: &Table,
+    key: &'static str,
+) -> Result<Text, GuideFileFault>
     ensures { Gives (λ x. x) result (tables.required as_str key.now (table_view table.now)) }
 {
     Ok(required(alloc, table, key, &AnyText)?)
 }
 
 /// A number of 0 to 4,294,967,295.
-pub fn count_at(alloc: Global, table: &Table, key: &'static str) -> Result<u32, GuideFileFault>
+pub(crate) fn count_at(
+    alloc: Global,
+    table: &Table,
+    key: &'static str,
+) -> Result<u32, GuideFileFault>
     ensures { Gives (λ x. x) result (tables.required tables.count_of_data key.now (table_view table.now)) }
 {
     Ok(required(alloc, table, key, &Count)?)
 }
 
 /// A truth value.
-pub fn flag_at(alloc: Global, table: &Table, key: &'static str) -> Result<bool, GuideFileFault>
+pub(crate) fn flag_at(
+    alloc: Global,
+    table: &Table,
+    key: &'static str,
+) -> Result<bool, GuideFileFault>
     ensures { Gives (λ x. x) result (tables.required as_bool key.now (table_view table.now)) }
 {
     Ok(required(alloc, table, key, &Flag)?)
 }
 
 /// `need` or `ban`.
-pub fn dependency_kind_at(
+pub(crate) fn dependency_kind_at(
     alloc: Global,
     table: &Table,
     key: &'static str,
@@ -93,7 +113,7 @@ pub fn dependency_kind_at(
 }
 
 /// A list of texts, and what each means.
-pub fn entries_at<T: Entry>(
+pub(crate) fn entries_at<T: Entry>(
     alloc: Global,
     table: &Table,
     key: &'static str,
@@ -105,7 +125,7 @@ pub fn entries_at<T: Entry>(
 }
 
 /// The entries at a key that may be absent: then there are none.
-pub fn some_entries_at<T: Entry>(
+pub(crate) fn some_entries_at<T: Entry>(
     alloc: Global,
     table: &Table,
     key: &'static str,
@@ -118,7 +138,11 @@ pub fn some_entries_at<T: Entry>(
 }
 
 /// A list of codes.
-pub fn codes_at(alloc: Global, table: &Table, key: &'static str) -> Result<Codes, GuideFileFault>
+pub(crate) fn codes_at(
+    alloc: Global,
+    table: &Table,
+    key: &'static str,
+) -> Result<Codes, GuideFileFault>
     ensures { Gives (λ x. x) result (tables.required (values.texts_in (formed form.Code)) key.now (table_view table.now)) }
 {
     let texts = required(alloc, table, key, &ListOf(Formed(Form::Code)))?;
@@ -126,7 +150,7 @@ pub fn codes_at(alloc: Global, table: &Table, key: &'static str) -> Result<Codes
 }
 
 /// A list of texts of a form; none where it is absent.
-pub fn some_texts_at(
+pub(crate) fn some_texts_at(
     alloc: Global,
     table: &Table,
     key: &'static str,

@@ -19,7 +19,7 @@ fn first_space(text: &[u8]) -> usize
 }
 
 /// The parts of a text between single spaces.
-pub fn tokens_of(alloc: Global, text: &[u8]) -> Result<Vec<Lent<'_>>, NoMemory>
+pub(crate) fn tokens_of(alloc: Global, text: &[u8]) -> Result<Vec<Lent<'_>>, NoMemory>
     ensures { IfOk result (λ v. v.items ≡ tokens_of text.now) }
 {
     let mut tokens = Vec::new(alloc);
@@ -44,7 +44,7 @@ fn is_semicolon(token: &Lent) -> bool
 }
 
 /// Where the first semicolon is, or the number of tokens.
-pub fn first_semicolon(tokens: &[Lent]) -> usize
+pub(crate) fn first_semicolon(tokens: &[Lent]) -> usize
     ensures at { result ≡ position_or_len is_semicolon tokens.now }
     ensures within { result ≤ length tokens.now }
 {
@@ -69,14 +69,14 @@ fn are_code_bytes(bytes: &[u8]) -> bool
 }
 
 /// Whether a token is a code.
-pub fn is_code(token: &[u8]) -> bool
+pub(crate) fn is_code(token: &[u8]) -> bool
     ensures { result ≡ is_code token.now }
 {
     1 <= token.len() && are_code_bytes(token)
 }
 
 /// Whether each token is a code.
-pub fn are_codes(tokens: &[Lent]) -> bool
+pub(crate) fn are_codes(tokens: &[Lent]) -> bool
     ensures { result ≡ list_all is_code tokens.now }
 {
     for token in tokens {
@@ -88,7 +88,7 @@ pub fn are_codes(tokens: &[Lent]) -> bool
 }
 
 /// How many codes are in front.
-pub fn code_count(tokens: &[Lent]) -> usize
+pub(crate) fn code_count(tokens: &[Lent]) -> usize
     ensures count { result ≡ prefix_len is_code tokens.now }
     ensures within { result ≤ length tokens.now }
 {
@@ -101,7 +101,7 @@ pub fn code_count(tokens: &[Lent]) -> usize
 }
 
 /// Copies of tokens.
-pub fn texts_of(alloc: Global, tokens: &[Lent]) -> Result<Texts, NoMemory>
+pub(crate) fn texts_of(alloc: Global, tokens: &[Lent]) -> Result<Texts, NoMemory>
     ensures { IfOk result (λ t. t ≡ tokens.now) }
 {
     let mut texts = Vec::new(alloc);

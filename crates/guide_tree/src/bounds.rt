@@ -58,7 +58,7 @@ fn is_loop_id(id: &[u8]) -> bool
 }
 
 /// Whether there is some text.
-pub fn is_filled(texts: &[Text]) -> bool
+pub(crate) fn is_filled(texts: &[Text]) -> bool
     ensures { result ≡ has_codes texts.now }
 {
     1 <= texts.len()
@@ -137,7 +137,7 @@ fn is_loop_bounded(head: &Loop) -> bool
 }
 
 /// Whether a node's own bounds and id are as they must be.
-pub fn is_bounded(node: &Node) -> bool
+pub(crate) fn is_bounded(node: &Node) -> bool
     ensures { result ≡ is_bounded (view node.now) }
 {
     match node {

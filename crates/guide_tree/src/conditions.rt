@@ -24,7 +24,7 @@ fn has_trigger(nodes: &[Node]) -> bool
 }
 
 /// Whether a loop begins with a segment that is there exactly once.
-pub fn is_triggered(node: &Node) -> bool
+pub(crate) fn is_triggered(node: &Node) -> bool
     ensures { result ≡ is_triggered (view node.now) }
 {
     match node {
@@ -34,7 +34,7 @@ pub fn is_triggered(node: &Node) -> bool
 }
 
 /// Whether a slot has a row for the element at a position, from 1 on.
-pub fn has_row(slot: &Slot, position: u32) -> bool
+pub(crate) fn has_row(slot: &Slot, position: u32) -> bool
     ensures { result ≡ has_row slot.now position }
 {
     1 <= position && position as usize <= slot.elements.as_slice().len()
@@ -77,7 +77,7 @@ fn are_rows_once(slot: &Slot, positions: &[u32]) -> bool
 }
 
 /// Whether a relational condition has two or more positions, none of them twice and each with a row.
-pub fn is_condition_of(slot: &Slot, condition: &Condition) -> bool
+pub(crate) fn is_condition_of(slot: &Slot, condition: &Condition) -> bool
     ensures { result ≡ is_condition_of slot.now condition.now }
 {
     let positions = condition.positions.as_slice();
@@ -119,7 +119,7 @@ fn are_each_picks_of(slot: &Slot, picks: &[Pick]) -> bool
 }
 
 /// Whether picks have positions with rows, none of them twice, and some codes.
-pub fn are_picks_of(slot: &Slot, picks: &[Pick]) -> bool
+pub(crate) fn are_picks_of(slot: &Slot, picks: &[Pick]) -> bool
     ensures { result ≡ are_picks_of slot.now picks.now }
 {
     if !are_each_picks_of(slot, picks) {

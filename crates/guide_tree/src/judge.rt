@@ -68,7 +68,7 @@ fn keeps(rule: Rule, all: &[Node], node: &Node) -> bool
 }
 
 /// The number of the first of the nodes, parents first, that breaks the rule among all nodes of the guide.
-pub fn first_breaking(nodes: &[Node], rule: Rule, all: &[Node]) -> Option<u32>
+pub(crate) fn first_breaking(nodes: &[Node], rule: Rule, all: &[Node]) -> Option<u32>
     ensures { result ≡ first_failing (keeps rule (nodes_view all.now)) (nodes_view nodes.now) }
 {
     for node in nodes {
@@ -119,7 +119,7 @@ fn is_hierarchy_of(nodes: &[Node], hl: &Option<HlRule>) -> bool
 }
 
 /// Whether dependencies and the rule of the hierarchy speak of slots and elements that there are.
-pub fn are_names_known(nodes: &[Node], depends: &[Dependency], hl: &Option<HlRule>) -> bool
+pub(crate) fn are_names_known(nodes: &[Node], depends: &[Dependency], hl: &Option<HlRule>) -> bool
     ensures { result ≡ list_all (is_dependency_of (nodes_view nodes.now)) depends.now && is_hierarchy_of (nodes_view nodes.now) hl.now }
 {
     are_dependencies_of(nodes, depends) && is_hierarchy_of(nodes, hl)

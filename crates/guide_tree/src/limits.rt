@@ -14,7 +14,7 @@ pub const MOST_USES: u32 = 999_999;
 pub const LONGEST_ELEMENT: u32 = 9_999;
 
 /// Whether no more than `limit` loops are nested. It goes no deeper than that.
-pub fn nests_within(nodes: &[Node], limit: u32) -> bool
+pub(crate) fn nests_within(nodes: &[Node], limit: u32) -> bool
     ensures { result ≡ nat_le (nesting (nodes_view nodes.now)) limit }
 {
     for node in nodes {
@@ -28,7 +28,7 @@ pub fn nests_within(nodes: &[Node], limit: u32) -> bool
 }
 
 /// How many nodes there is room for after these; none where there isn't room for these.
-pub fn room_behind(nodes: &[Node], room: usize) -> Option<usize>
+pub(crate) fn room_behind(nodes: &[Node], room: usize) -> Option<usize>
     ensures { result ≡ room_left room (node_count (nodes_view nodes.now)) }
 {
     let mut left = room;

@@ -14,7 +14,7 @@ fn is_hierarchy_slot(slot: &Slot) -> bool
 }
 
 /// The slot that a label names: the first that has it.
-pub fn slot_labelled<'a>(nodes: &'a [Node], label: &[u8]) -> Option<&'a Slot>
+pub(crate) fn slot_labelled<'a>(nodes: &'a [Node], label: &[u8]) -> Option<&'a Slot>
     ensures { option_map (λ s. s.now) result ≡ labelled (nodes_view nodes.entry.now) label.now }
 {
     for node in nodes {
@@ -42,7 +42,7 @@ fn has_slot_number(slot: &Slot, number: u32) -> bool
 }
 
 /// The slot with a number, where a segment has it.
-pub fn slot_numbered<'a>(nodes: &'a [Node], number: u32) -> Option<&'a Slot>
+pub(crate) fn slot_numbered<'a>(nodes: &'a [Node], number: u32) -> Option<&'a Slot>
     ensures { option_map (λ s. s.now) result ≡ slot_numbered (nodes_view nodes.entry.now) number }
 {
     for node in nodes {
@@ -64,7 +64,7 @@ pub fn slot_numbered<'a>(nodes: &'a [Node], number: u32) -> Option<&'a Slot>
 }
 
 /// The first segment HL that has four elements or more.
-pub fn hierarchy_slot(nodes: &[Node]) -> Option<&Slot>
+pub(crate) fn hierarchy_slot(nodes: &[Node]) -> Option<&Slot>
     ensures { option_map (λ s. s.now) result ≡ find_slot is_hierarchy_slot (nodes_view nodes.entry.now) }
 {
     for node in nodes {

@@ -25,7 +25,7 @@ fn number_node(node: &mut Node, number: u32) -> u32
 
 /// Numbers nodes and what is in them from `first` on, and gives the number after the last one.
 #[cycle(numbering)]
-pub fn number_nodes(nodes: &mut Vec<Node>, first: u32) -> u32
+pub(crate) fn number_nodes(nodes: &mut Vec<Node>, first: u32) -> u32
     requires { first + node_count (nodes_view nodes.old.items) < 2 ^ 32 }
     ensures next { result ≡ first + node_count (nodes_view nodes.old.items) }
     ensures numbered { nodes_view nodes.new.items ≡ numbered first (nodes_view nodes.old.items) }

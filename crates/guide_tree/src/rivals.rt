@@ -161,7 +161,7 @@ fn least_in(node: &Node, best: Option<Numbers>) -> Option<Numbers>
 
 /// The least pair of rivals among the nodes from `from` on and in them, or the best so far.
 #[cycle(rivals)]
-pub fn least_rivals(nodes: &[Node], from: usize, best: Option<Numbers>) -> Option<Numbers>
+pub(crate) fn least_rivals(nodes: &[Node], from: usize, best: Option<Numbers>) -> Option<Numbers>
     ensures { result ≡ least_rivals best (nodes_view (drop from nodes.now)) }
 {
     let mut least = best;

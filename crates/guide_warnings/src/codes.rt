@@ -37,7 +37,7 @@ fn value_length(data_type: ElementType, text: &[u8]) -> usize
 }
 
 /// Whether a value of a row may have the length of a code.
-pub fn has_length(row: &SimpleRow, code: &[u8]) -> bool
+pub(crate) fn has_length(row: &SimpleRow, code: &[u8]) -> bool
     ensures { result ≡ codes.has_length row.now code.now }
 {
     let length = value_length(row.data_type, code);
@@ -93,7 +93,7 @@ fn is_decimal(text: &[u8]) -> bool
 }
 
 /// Whether a value of a row may have the bytes of a code.
-pub fn has_form(row: &SimpleRow, code: &[u8]) -> bool
+pub(crate) fn has_form(row: &SimpleRow, code: &[u8]) -> bool
     ensures { result ≡ codes.has_form row.now code.now }
 {
     match row.data_type {
@@ -140,7 +140,11 @@ fn is_doubtful(doubt: CodeDoubt, row: &SimpleRow, code: &[u8]) -> bool
 }
 
 /// The first code of a list that a doubt is of.
-pub fn first_doubtful<'a>(doubt: CodeDoubt, row: &SimpleRow, listed: &'a [Text]) -> Option<&'a Text>
+pub(crate) fn first_doubtful<'a>(
+    doubt: CodeDoubt,
+    row: &SimpleRow,
+    listed: &'a [Text],
+) -> Option<&'a Text>
     ensures { option_map (λ code. code.now) result ≡ find (codes.is_doubtful doubt row.now) listed.entry.now }
 {
     for i in 0..listed.len() {
@@ -152,7 +156,7 @@ pub fn first_doubtful<'a>(doubt: CodeDoubt, row: &SimpleRow, listed: &'a [Text])
 }
 
 /// Adds the warning of a list's first code that a doubt is of.
-pub fn push_code(
+pub(crate) fn push_code(
     alloc: Global,
     found: &mut Vec<Warning>,
     slot: &Slot,

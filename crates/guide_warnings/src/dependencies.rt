@@ -55,7 +55,7 @@ fn push_dependency(
 }
 
 /// Adds what a guide's dependencies ask for that can't be.
-pub fn push_dependencies(
+pub(crate) fn push_dependencies(
     alloc: Global,
     found: &mut Vec<Warning>,
     guide: &Guide,

@@ -42,7 +42,7 @@ fn push_id(alloc: Global, found: &mut Vec<Warning>, slot: Option<&Slot>) -> Resu
 }
 
 /// Adds the ids of a dictionary that segment positions have too.
-pub fn push_dictionary(
+pub(crate) fn push_dictionary(
     alloc: Global,
     found: &mut Vec<Warning>,
     nodes: &[Node],

@@ -21,7 +21,7 @@ fn tolerates(head: &GuideHead, code: SegmentCode) -> bool
 }
 
 /// Whether a set may be accepted that has a segment of an id which the guide doesn't know, and which may begin with ISA.
-pub fn lets_headers_through(head: &GuideHead) -> bool
+pub(crate) fn lets_headers_through(head: &GuideHead) -> bool
     ensures { result ≡ headers.lets_headers_through head.now }
 {
     tolerates(head, SegmentCode::UnrecognizedSegment)

@@ -36,7 +36,7 @@ fn push_slot_label(
 }
 
 /// Adds the labels of nodes and of what is in them that no dependency names.
-pub fn push_labels(
+pub(crate) fn push_labels(
     alloc: Global,
     found: &mut Vec<Warning>,
     depends: &[Dependency],

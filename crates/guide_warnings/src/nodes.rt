@@ -9,7 +9,11 @@ use hub_kinds::NoMemory;
 use std::alloc::Global;
 
 /// Adds the warnings of nodes and of what is in them, in their order.
-pub fn push_nodes(alloc: Global, found: &mut Vec<Warning>, nodes: &[Node]) -> Result<(), NoMemory>
+pub(crate) fn push_nodes(
+    alloc: Global,
+    found: &mut Vec<Warning>,
+    nodes: &[Node],
+) -> Result<(), NoMemory>
     ensures { OnOk result (found.new.items ≡ found.old.items ++ nodes_warnings (nodes_view nodes.now)) }
 {
     for node in nodes {

@@ -127,7 +127,7 @@ fn push_elements(alloc: Global, found: &mut Vec<Warning>, slot: &Slot) -> Result
 }
 
 /// The row of the simple element at a position, from 1 on.
-pub fn row_at<'a>(slot: &'a Slot, position: u32) -> Option<&'a SimpleRow>
+pub(crate) fn row_at<'a>(slot: &'a Slot, position: u32) -> Option<&'a SimpleRow>
     ensures { option_map (λ row. row.now) result ≡ rows.row_at slot.entry.now position }
 {
     if position == 0 {
@@ -170,7 +170,11 @@ fn push_picks(alloc: Global, found: &mut Vec<Warning>, slot: &Slot) -> Result<()
 }
 
 /// Adds the warnings of a segment position.
-pub fn push_slot(alloc: Global, found: &mut Vec<Warning>, slot: &Slot) -> Result<(), NoMemory>
+pub(crate) fn push_slot(
+    alloc: Global,
+    found: &mut Vec<Warning>,
+    slot: &Slot,
+) -> Result<(), NoMemory>
     ensures { OnOk result (found.new.items ≡ found.old.items ++ rows.slot_warnings slot.now) }
 {
     push_elements(alloc, found, slot)?;

@@ -79,7 +79,11 @@ fn push_slot_unmet(alloc: Global, found: &mut Vec<Warning>, slot: &Slot) -> Resu
 }
 
 /// Adds the elements of nodes by which no set can meet them.
-pub fn push_unmet(alloc: Global, found: &mut Vec<Warning>, nodes: &[Node]) -> Result<(), NoMemory>
+pub(crate) fn push_unmet(
+    alloc: Global,
+    found: &mut Vec<Warning>,
+    nodes: &[Node],
+) -> Result<(), NoMemory>
     ensures { OnOk result (found.new.items ≡ found.old.items ++ unmet.unmet_nodes (nodes_view nodes.now)) }
 {
     for node in nodes {

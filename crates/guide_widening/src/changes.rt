@@ -9,14 +9,14 @@ use guide_tree::{ElementType, Requirement};
 use hub_kinds::Text;
 
 /// A `change`, unless a test holds.
-pub fn unless(holds: bool, change: Change) -> Option<Change>
+pub(crate) fn unless(holds: bool, change: Change) -> Option<Change>
     ensures { result ≡ changes.unless holds change }
 {
     if holds { None } else { Some(change) }
 }
 
 /// How a least value differs from `old` to `new`.
-pub fn least_change(old: u32, new: u32) -> Option<Change>
+pub(crate) fn least_change(old: u32, new: u32) -> Option<Change>
     ensures { result ≡ changes.least_change old new }
 {
     if old == new {
@@ -29,7 +29,7 @@ pub fn least_change(old: u32, new: u32) -> Option<Change>
 }
 
 /// How a greatest value differs from `old` to `new`.
-pub fn most_change(old: u32, new: u32) -> Option<Change>
+pub(crate) fn most_change(old: u32, new: u32) -> Option<Change>
     ensures { result ≡ changes.most_change old new }
 {
     if old == new {
@@ -42,7 +42,7 @@ pub fn most_change(old: u32, new: u32) -> Option<Change>
 }
 
 /// How it differs whether something is asked for.
-pub fn asked_change(old: bool, new: bool) -> Option<Change>
+pub(crate) fn asked_change(old: bool, new: bool) -> Option<Change>
     ensures { result ≡ changes.asked_change old new }
 {
     match (old, new) {
@@ -53,7 +53,7 @@ pub fn asked_change(old: bool, new: bool) -> Option<Change>
 }
 
 /// How a requirement differs from `old` to `new`.
-pub fn requirement_change(old: Requirement, new: Requirement) -> Option<Change>
+pub(crate) fn requirement_change(old: Requirement, new: Requirement) -> Option<Change>
     ensures { result ≡ changes.requirement_change old new }
 {
     match (old, new) {
@@ -88,7 +88,7 @@ fn is_wider_type(old: ElementType, new: ElementType) -> bool
 }
 
 /// How a type differs from `old` to `new`.
-pub fn type_change(old: ElementType, new: ElementType) -> Option<Change>
+pub(crate) fn type_change(old: ElementType, new: ElementType) -> Option<Change>
     ensures { result ≡ changes.type_change old new }
 {
     match (old, new) {
@@ -99,14 +99,14 @@ pub fn type_change(old: ElementType, new: ElementType) -> Option<Change>
 }
 
 /// How a text differs from `old` to `new`.
-pub fn text_change(old: &[u8], new: &[u8]) -> Option<Change>
+pub(crate) fn text_change(old: &[u8], new: &[u8]) -> Option<Change>
     ensures { result ≡ changes.text_change old.now new.now }
 {
     unless(old == new, Change::Other)
 }
 
 /// Whether two texts are the same, or neither is there.
-pub fn is_same_text(one: &Option<Text>, other: &Option<Text>) -> bool
+pub(crate) fn is_same_text(one: &Option<Text>, other: &Option<Text>) -> bool
     ensures { result ≡ is_same_text one.now other.now }
 {
     match (one, other) {
@@ -117,14 +117,14 @@ pub fn is_same_text(one: &Option<Text>, other: &Option<Text>) -> bool
 }
 
 /// How a label differs from `old` to `new`.
-pub fn label_change(old: &Option<Text>, new: &Option<Text>) -> Option<Change>
+pub(crate) fn label_change(old: &Option<Text>, new: &Option<Text>) -> Option<Change>
     ensures { result ≡ changes.label_change old.now new.now }
 {
     unless(is_same_text(old, new), Change::Other)
 }
 
 /// How a convention differs from `old` to `new`.
-pub fn convention_change(old: &Option<Text>, new: &Option<Text>) -> Option<Change>
+pub(crate) fn convention_change(old: &Option<Text>, new: &Option<Text>) -> Option<Change>
     ensures { result ≡ changes.convention_change old.now new.now }
 {
     match (old, new) {
@@ -136,7 +136,7 @@ pub fn convention_change(old: &Option<Text>, new: &Option<Text>) -> Option<Chang
 }
 
 /// How the presence of a row differs that is new, or is used and wasn't.
-pub fn used_change(may_be_empty: bool) -> Option<Change>
+pub(crate) fn used_change(may_be_empty: bool) -> Option<Change>
     ensures { result ≡ rows.used_change may_be_empty }
 {
     if may_be_empty {

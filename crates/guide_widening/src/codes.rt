@@ -11,7 +11,7 @@ use hub_kinds::{NoMemory, Text, copy_text};
 use std::alloc::Global;
 
 /// Adds each of `texts` that isn't in `other`, as gone.
-pub fn push_gone(
+pub(crate) fn push_gone(
     alloc: Global,
     found: &mut Vec<Difference>,
     at: At,
@@ -31,7 +31,7 @@ pub fn push_gone(
 }
 
 /// Adds each of `texts` that isn't in `other`, as new.
-pub fn push_new(
+pub(crate) fn push_new(
     alloc: Global,
     found: &mut Vec<Difference>,
     at: At,
@@ -51,7 +51,7 @@ pub fn push_new(
 }
 
 /// Adds what two code lists say otherwise.
-pub fn push_codes(
+pub(crate) fn push_codes(
     alloc: Global,
     found: &mut Vec<Difference>,
     at: At,

@@ -100,7 +100,7 @@ fn push_components(
 }
 
 /// Adds what two rows of composite elements say otherwise.
-pub fn push_composite(
+pub(crate) fn push_composite(
     alloc: Global,
     found: &mut Vec<Difference>,
     at: At,

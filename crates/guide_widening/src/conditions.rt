@@ -134,7 +134,7 @@ fn push_each_gone(
 }
 
 /// Adds what the relational conditions of two slots say otherwise.
-pub fn push_conditions(
+pub(crate) fn push_conditions(
     alloc: Global,
     found: &mut Vec<Difference>,
     at: At,

@@ -171,7 +171,7 @@ fn push_each_gone(
 }
 
 /// Adds what the dependencies of two guides say otherwise.
-pub fn push_dependencies(
+pub(crate) fn push_dependencies(
     alloc: Global,
     found: &mut Vec<Difference>,
     old: &[Dependency],

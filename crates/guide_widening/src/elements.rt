@@ -112,7 +112,7 @@ fn push_pair(
 }
 
 /// Adds what the element rows of two segments say otherwise.
-pub fn push_elements(
+pub(crate) fn push_elements(
     alloc: Global,
     found: &mut Vec<Difference>,
     at: At,

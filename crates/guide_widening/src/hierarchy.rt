@@ -146,7 +146,7 @@ fn push_pairs(
 }
 
 /// Adds what the rules of two guides for HL segments say otherwise.
-pub fn push_hierarchy(
+pub(crate) fn push_hierarchy(
     alloc: Global,
     found: &mut Vec<Difference>,
     old: &Option<HlRule>,

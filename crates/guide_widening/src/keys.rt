@@ -10,7 +10,7 @@ use std::alloc::Global;
 use std::collections::BTreeSet;
 
 /// Adds `key` to `known`.
-pub fn insert_key(known: &mut BTreeSet<Vec<u64>>, key: Vec<u64>) -> Result<(), NoMemory>
+pub(crate) fn insert_key(known: &mut BTreeSet<Vec<u64>>, key: Vec<u64>) -> Result<(), NoMemory>
     ensures { OnOk result ((all : List (List ℕ)) → Knows known.old all → Knows known.new (all ++ key.items ∷ [])) }
 {
     known.insert(key)?;
@@ -18,7 +18,7 @@ pub fn insert_key(known: &mut BTreeSet<Vec<u64>>, key: Vec<u64>) -> Result<(), N
 }
 
 /// Whether `known` has `key`.
-pub fn has_key(known: &BTreeSet<Vec<u64>>, key: &[u64]) -> bool
+pub(crate) fn has_key(known: &BTreeSet<Vec<u64>>, key: &[u64]) -> bool
     ensures { result ≡ has known.now key.now }
 {
     known.contains(key)
@@ -62,7 +62,7 @@ fn relation_number(relation: Relation) -> u64
 }
 
 /// The key of a relational condition.
-pub fn condition_key(alloc: Global, condition: &Condition) -> Result<Vec<u64>, NoMemory>
+pub(crate) fn condition_key(alloc: Global, condition: &Condition) -> Result<Vec<u64>, NoMemory>
     ensures { IfOk result (λ key. key.items ≡ keys.condition_key condition.now) }
 {
     let mut key = Vec::new(alloc);
@@ -87,7 +87,7 @@ fn append_level(key: &mut Vec<u64>, level: &Option<Text>) -> Result<(), NoMemory
 }
 
 /// The key of a pair of levels.
-pub fn pair_key(alloc: Global, pair: &HlPair) -> Result<Vec<u64>, NoMemory>
+pub(crate) fn pair_key(alloc: Global, pair: &HlPair) -> Result<Vec<u64>, NoMemory>
     ensures { IfOk result (λ key. key.items ≡ keys.pair_key pair.now) }
 {
     let mut key = Vec::new(alloc);
@@ -106,7 +106,11 @@ fn kind_number(kind: DependencyKind) -> u64
 }
 
 /// The key of a dependency with one of its codes.
-pub fn dependency_key(alloc: Global, depend: &Dependency, code: &[u8]) -> Result<Vec<u64>, NoMemory>
+pub(crate) fn dependency_key(
+    alloc: Global,
+    depend: &Dependency,
+    code: &[u8],
+) -> Result<Vec<u64>, NoMemory>
     ensures { IfOk result (λ key. key.items ≡ keys.dependency_key depend.now code.now) }
 {
     let mut key = Vec::new(alloc);

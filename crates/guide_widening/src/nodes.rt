@@ -51,7 +51,7 @@ fn is_same_node(one: &Node, other: &Node) -> bool
 }
 
 /// How many of the nodes `new` come before the first that is the same as `node`; all if none is.
-pub fn before_same(node: &Node, new: &[Node]) -> usize
+pub(crate) fn before_same(node: &Node, new: &[Node]) -> usize
     ensures value { result ≡ nodes.before_same (view node.now) (nodes_view new.now) }
     ensures within { result ≤ length new.now }
 {
@@ -83,7 +83,7 @@ fn push_new(found: &mut Vec<Difference>, node: &Node) -> Result<(), NoMemory>
 }
 
 /// Adds each of `new`, as new.
-pub fn push_each_new(found: &mut Vec<Difference>, new: &[Node]) -> Result<(), NoMemory>
+pub(crate) fn push_each_new(found: &mut Vec<Difference>, new: &[Node]) -> Result<(), NoMemory>
     ensures { OnOk result (found.new.items ≡ found.old.items ++ nodes.new_nodes (nodes_view new.now)) }
 {
     for node in new {
@@ -93,7 +93,7 @@ pub fn push_each_new(found: &mut Vec<Difference>, new: &[Node]) -> Result<(), No
 }
 
 /// Adds `node`, as gone.
-pub fn push_gone(found: &mut Vec<Difference>, node: &Node) -> Result<(), NoMemory>
+pub(crate) fn push_gone(found: &mut Vec<Difference>, node: &Node) -> Result<(), NoMemory>
     ensures { OnOk result (found.new.items ≡ found.old.items ++ nodes.gone_node (view node.now)) }
 {
     let before = Value::Uses(least_use(node), greatest_use(node));
@@ -108,7 +108,11 @@ pub fn push_gone(found: &mut Vec<Difference>, node: &Node) -> Result<(), NoMemor
 }
 
 /// Adds two nodes of which one is a segment and the other a loop.
-pub fn push_other(found: &mut Vec<Difference>, old: &Node, new: &Node) -> Result<(), NoMemory>
+pub(crate) fn push_other(
+    found: &mut Vec<Difference>,
+    old: &Node,
+    new: &Node,
+) -> Result<(), NoMemory>
     ensures { OnOk result (found.new.items ≡ found.old.items ++ nodes.other_node (view old.now) (view new.now)) }
 {
     let before = Value::Uses(least_use(old), greatest_use(old));

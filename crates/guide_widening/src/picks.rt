@@ -17,7 +17,7 @@ use hub_kinds::{NoMemory, Text};
 use std::alloc::Global;
 
 /// Whether each of `texts` is in `other`.
-pub fn are_texts_of(other: &Codes, texts: &[Text]) -> bool
+pub(crate) fn are_texts_of(other: &Codes, texts: &[Text]) -> bool
     ensures { result ≡ are_texts_of other.now texts.now }
 {
     texts.iter().all(|text| other.contains(text.as_slice()))
@@ -48,7 +48,7 @@ fn agree_each(picks: &[Pick], others: &[Pick]) -> bool
 }
 
 /// Whether some segment fits both slots.
-pub fn can_fit_both(slot: &Slot, other: &Slot) -> bool
+pub(crate) fn can_fit_both(slot: &Slot, other: &Slot) -> bool
     ensures { result ≡ can_fit_both slot.now other.now }
 {
     slot.id.as_slice() == other.id.as_slice()
@@ -137,7 +137,7 @@ fn push_gone(
 }
 
 /// Adds what the picks of two slots say otherwise.
-pub fn push_picks(
+pub(crate) fn push_picks(
     alloc: Global,
     found: &mut Vec<Difference>,
     at: At,

@@ -5,7 +5,7 @@ use crate::difference::{At, Change, Difference, Key, Value};
 use hub_kinds::NoMemory;
 
 /// Adds a difference at `at` of `key` from `old` to `new`, if there is a `change`.
-pub fn push(
+pub(crate) fn push(
     found: &mut Vec<Difference>,
     at: At,
     key: Key,

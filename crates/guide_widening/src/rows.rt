@@ -11,7 +11,7 @@ use hub_kinds::NoMemory;
 use std::alloc::Global;
 
 /// Adds how a requirement differs from `old` to `new`.
-pub fn push_requirement(
+pub(crate) fn push_requirement(
     found: &mut Vec<Difference>,
     at: At,
     old: Requirement,
@@ -32,7 +32,12 @@ pub fn push_requirement(
 }
 
 /// Adds how often an element may occur, if that differs from `old` to `new`.
-pub fn push_repeat(found: &mut Vec<Difference>, at: At, old: u32, new: u32) -> Result<(), NoMemory>
+pub(crate) fn push_repeat(
+    found: &mut Vec<Difference>,
+    at: At,
+    old: u32,
+    new: u32,
+) -> Result<(), NoMemory>
     ensures { OnOk result (found.new.items ≡ found.old.items ++ rows.repeat_differences at old new) }
 {
     let before = Value::Number(u64::from(old));
@@ -97,7 +102,7 @@ fn push_lengths(
 }
 
 /// Adds what two rows of simple elements or components say otherwise.
-pub fn push_row(
+pub(crate) fn push_row(
     alloc: Global,
     found: &mut Vec<Difference>,
     at: At,

@@ -60,7 +60,7 @@ fn push_slot_uses(found: &mut Vec<Difference>, old: &Slot, new: &Slot) -> Result
 }
 
 /// Adds what two loops say otherwise of their use.
-pub fn push_loop(found: &mut Vec<Difference>, old: &Loop, new: &Loop) -> Result<(), NoMemory>
+pub(crate) fn push_loop(found: &mut Vec<Difference>, old: &Loop, new: &Loop) -> Result<(), NoMemory>
     ensures { OnOk result (found.new.items ≡ found.old.items ++ nodes.loop_differences old.now new.now) }
 {
     let before = Uses {
@@ -75,7 +75,7 @@ pub fn push_loop(found: &mut Vec<Difference>, old: &Loop, new: &Loop) -> Result<
 }
 
 /// Adds what two segments say otherwise.
-pub fn push_slot(
+pub(crate) fn push_slot(
     alloc: Global,
     found: &mut Vec<Difference>,
     old: &Slot,

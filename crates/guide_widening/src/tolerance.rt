@@ -36,7 +36,7 @@ fn push_codes<C: Code>(
 }
 
 /// Adds which faults don't reject a set by one of two guides.
-pub fn push_tolerated(
+pub(crate) fn push_tolerated(
     alloc: Global,
     found: &mut Vec<Difference>,
     old: &GuideHead,

@@ -10,7 +10,7 @@ use hub_kinds::{NoMemory, Text, copy_text};
 use std::alloc::Global;
 
 /// A copy of `text` as a value.
-pub fn text_of(alloc: Global, text: &Option<Text>) -> Result<Value, NoMemory>
+pub(crate) fn text_of(alloc: Global, text: &Option<Text>) -> Result<Value, NoMemory>
     ensures { IfOk result (λ value. value ≡ changes.text_value text.now) }
 {
     match text {
@@ -20,7 +20,7 @@ pub fn text_of(alloc: Global, text: &Option<Text>) -> Result<Value, NoMemory>
 }
 
 /// The presence that a requirement asks for.
-pub fn required(requirement: Requirement) -> Presence
+pub(crate) fn required(requirement: Requirement) -> Presence
     ensures { result ≡ rows.required requirement }
 {
     match requirement {
@@ -39,7 +39,7 @@ fn is_optional(requirement: Requirement) -> bool
 }
 
 /// The presence that the row of a component asks for.
-pub fn component_presence(component: &Component) -> Presence
+pub(crate) fn component_presence(component: &Component) -> Presence
     ensures { result ≡ rows.component_presence component.now }
 {
     match component {
@@ -49,7 +49,7 @@ pub fn component_presence(component: &Component) -> Presence
 }
 
 /// The presence that the row of an element asks for.
-pub fn element_presence(element: &Element) -> Presence
+pub(crate) fn element_presence(element: &Element) -> Presence
     ensures { result ≡ rows.element_presence element.now }
 {
     match element {
@@ -60,7 +60,7 @@ pub fn element_presence(element: &Element) -> Presence
 }
 
 /// Whether a component may be empty.
-pub fn fits_no_component(component: &Component) -> bool
+pub(crate) fn fits_no_component(component: &Component) -> bool
     ensures { result ≡ fits_no_component component.now }
 {
     match component {
@@ -70,7 +70,7 @@ pub fn fits_no_component(component: &Component) -> bool
 }
 
 /// Whether an element may be empty.
-pub fn fits_empty(element: &Element) -> bool
+pub(crate) fn fits_empty(element: &Element) -> bool
     ensures { result ≡ fits_empty element.now }
 {
     match element {
@@ -81,7 +81,7 @@ pub fn fits_empty(element: &Element) -> bool
 }
 
 /// The place of a node by its `number`.
-pub fn at_node(number: u32) -> At
+pub(crate) fn at_node(number: u32) -> At
     ensures { result ≡ nodes.at_node number }
 {
     At {
@@ -92,7 +92,7 @@ pub fn at_node(number: u32) -> At
 }
 
 /// The place of an element of the node at `at`, by its `position` from 1 on.
-pub fn element_at(at: At, position: u64) -> At
+pub(crate) fn element_at(at: At, position: u64) -> At
     ensures { result ≡ rows.element_at at position }
 {
     At {
@@ -103,7 +103,7 @@ pub fn element_at(at: At, position: u64) -> At
 }
 
 /// The place of a component of the element at `at`, by its `position` from 1 on.
-pub fn component_at(at: At, position: u64) -> At
+pub(crate) fn component_at(at: At, position: u64) -> At
     ensures { result ≡ rows.component_at at position }
 {
     At {

@@ -59,7 +59,7 @@ fn push_against<'a>(
 
 /// Adds what two lists of nodes say otherwise, node by node.
 #[cycle(walk)]
-pub fn push_nodes(
+pub(crate) fn push_nodes(
     alloc: Global,
     found: &mut Vec<Difference>,
     old: &[Node],

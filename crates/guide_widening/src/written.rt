@@ -41,7 +41,7 @@ fn append_codes(out: &mut Vec<u8>, texts: &[Text]) -> Result<(), NoMemory>
 }
 
 /// A pick as a value.
-pub fn pick_written(alloc: Global, pick: &Pick) -> Result<Value, NoMemory>
+pub(crate) fn pick_written(alloc: Global, pick: &Pick) -> Result<Value, NoMemory>
     ensures { IfOk result (λ v. v ≡ nodes.pick_written pick.now) }
 {
     let mut text = Vec::new(alloc);

@@ -35,7 +35,7 @@ fn add_before<'a>(
 }
 
 /// Adds what the later HLs show of each, from the last on.
-pub fn add_backward<'a>(
+pub(crate) fn add_backward<'a>(
     alloc: Global,
     faults: &mut Vec<Fault<'a>>,
     delims: Delims,

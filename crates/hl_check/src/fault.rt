@@ -29,7 +29,7 @@ fn hl_fault<'a>(hl: &PlacedSeg<'_, 'a, 'a>, element: u32, code: ElementCode) -> 
 }
 
 /// Adds the fault, where something is wrong.
-pub fn add_if<'a>(
+pub(crate) fn add_if<'a>(
     faults: &mut Vec<Fault<'a>>,
     wrong: bool,
     hl: &PlacedSeg<'_, 'a, 'a>,

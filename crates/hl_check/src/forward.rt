@@ -48,7 +48,7 @@ fn add_behind<'a>(
 }
 
 /// Adds what the earlier HLs show of each.
-pub fn add_forward<'a>(
+pub(crate) fn add_forward<'a>(
     alloc: Global,
     faults: &mut Vec<Fault<'a>>,
     rule: &HlRule,

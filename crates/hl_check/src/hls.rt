@@ -26,7 +26,7 @@ fn keep_hls(placed: &mut Vec<PlacedSeg>)
 }
 
 /// The HL segments of a body that have places.
-pub fn hls_of<'s, 'a, 'g>(
+pub(crate) fn hls_of<'s, 'a, 'g>(
     alloc: Global,
     segs: &'s [SegView<'a>],
     placing: &Placing,

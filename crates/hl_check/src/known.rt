@@ -10,7 +10,10 @@ use std::collections::{BTreeMap, BTreeSet};
 use x12_bytes::Delims;
 
 /// The level of the first HL with a number.
-pub fn level_with<'a>(levels: &BTreeMap<&'a [u8], &'a [u8]>, number: &[u8]) -> Option<&'a [u8]>
+pub(crate) fn level_with<'a>(
+    levels: &BTreeMap<&'a [u8], &'a [u8]>,
+    number: &[u8],
+) -> Option<&'a [u8]>
     ensures { (hls : List Segment) → KnowsLevels levels.now hls
         → option_map (λ l. l.now) result ≡ option_map level_of (first_numbered number.now hls) }
 {
@@ -18,7 +21,7 @@ pub fn level_with<'a>(levels: &BTreeMap<&'a [u8], &'a [u8]>, number: &[u8]) -> O
 }
 
 /// Adds an HL's number and level, unless an earlier one has the number.
-pub fn add_level<'a>(
+pub(crate) fn add_level<'a>(
     levels: &mut BTreeMap<&'a [u8], &'a [u8]>,
     number: &'a [u8],
     level: &'a [u8],
@@ -33,7 +36,7 @@ pub fn add_level<'a>(
 }
 
 /// Adds the number that an HL02 is; an empty one is none.
-pub fn add_named<'a>(
+pub(crate) fn add_named<'a>(
     named: &mut BTreeSet<&'a [u8]>,
     delims: Delims,
     parent: &'a [u8],

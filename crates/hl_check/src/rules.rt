@@ -11,14 +11,14 @@ use itoa::Buffer;
 use x12_bytes::Delims;
 
 /// Whether a text has a byte other than component and repetition separators.
-pub fn is_filled(delims: Delims, text: &[u8]) -> bool
+pub(crate) fn is_filled(delims: Delims, text: &[u8]) -> bool
     ensures { result ≡ is_filled delims text.now }
 {
     !is_empty(delims, text)
 }
 
 /// Whether a text is the number in decimal, without leading zeros.
-pub fn is_count(text: &[u8], count: usize) -> bool
+pub(crate) fn is_count(text: &[u8], count: usize) -> bool
     ensures { result ≡ bytes_eq text.now (decimal count) }
 {
     let mut buffer = Buffer::new();
@@ -26,7 +26,7 @@ pub fn is_count(text: &[u8], count: usize) -> bool
 }
 
 /// Whether an HL01 is wrong that `known` says an earlier HL has, and that is the one with this count.
-pub fn is_number_wrong(
+pub(crate) fn is_number_wrong(
     rule: &HlRule,
     delims: Delims,
     number: &[u8],
@@ -51,7 +51,7 @@ fn is_pair(parent: Option<&[u8]>, child: &[u8], pair: &HlPair) -> bool
 }
 
 /// Whether a level is listed below that of a parent, or as a root's.
-pub fn is_listed(rule: &HlRule, parent: Option<&[u8]>, child: &[u8]) -> bool
+pub(crate) fn is_listed(rule: &HlRule, parent: Option<&[u8]>, child: &[u8]) -> bool
     ensures { result ≡ is_listed rule.now (option_map (λ p. p.now) parent.entry) child.now }
 {
     rule.pairs
@@ -61,7 +61,7 @@ pub fn is_listed(rule: &HlRule, parent: Option<&[u8]>, child: &[u8]) -> bool
 }
 
 /// Whether an HL03 is wrong, by the level of the HL that HL02 names, if there is one; `root` says that HL02 is empty.
-pub fn is_level_wrong(rule: &HlRule, named: bool, above: Option<&[u8]>, level: &[u8]) -> bool
+pub(crate) fn is_level_wrong(rule: &HlRule, named: bool, above: Option<&[u8]>, level: &[u8]) -> bool
     ensures { result ≡ (if named
         then option_map_or (λ p. not (is_listed rule.now (Some p.now) level.now)) above.entry false
         else not (is_listed rule.now None level.now)) }
@@ -76,7 +76,7 @@ pub fn is_level_wrong(rule: &HlRule, named: bool, above: Option<&[u8]>, level: &
 }
 
 /// Whether an HL04 is wrong, by whether some later HL02 is the number.
-pub fn is_child_wrong(child: &[u8], named: bool) -> bool
+pub(crate) fn is_child_wrong(child: &[u8], named: bool) -> bool
     ensures { result ≡ ((bytes_eq child.now (codes "1") && not named) || (bytes_eq child.now (codes "0") && named)) }
 {
     (child == b"1".as_slice() && !named) || (child == b"0".as_slice() && named)

@@ -60,7 +60,7 @@ fn node_spot<'t>(alloc: Global, top: &'t Table, number: u32) -> Result<Option<Sp
 }
 
 /// The table of a guide file in which a refused key is, by the number of its node, or 0. The only error is out of memory.
-pub fn guide_spot<'t>(
+pub(crate) fn guide_spot<'t>(
     alloc: Global,
     number: u32,
     refused: RefusedKey<'_>,

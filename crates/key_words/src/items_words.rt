@@ -99,7 +99,7 @@ fn append_item(
 }
 
 /// Adds a key, as it is written.
-pub fn append_key(out: &mut Vec<u8>, key: &[u8]) -> Result<(), NoMemory>
+pub(crate) fn append_key(out: &mut Vec<u8>, key: &[u8]) -> Result<(), NoMemory>
     ensures { OnOk result (out.new.items ≡ out.old.items ++ key_text key.now) }
 {
     append(out, b"`")?;
@@ -136,7 +136,7 @@ fn wrong_at<'v>(
 }
 
 /// Adds what is wrong with a value, by what the key wants.
-pub fn append_value(
+pub(crate) fn append_value(
     alloc: Global,
     out: &mut Vec<u8>,
     key: &[u8],

@@ -112,7 +112,7 @@ fn is_group_id(value: &Value) -> bool
 }
 
 /// Whether a value has a form. The only error is out of memory.
-pub fn stands(alloc: Global, form: ValueForm, value: &Value) -> Result<bool, NoMemory>
+pub(crate) fn stands(alloc: Global, form: ValueForm, value: &Value) -> Result<bool, NoMemory>
     ensures { IfOk result (λ yes. yes ≡ forms.stands form (view value.now)) }
 {
     match form {
@@ -234,7 +234,7 @@ fn or_form(is_first: bool, first: ValueForm, second: ValueForm) -> ValueForm
 }
 
 /// What may be at a key of a table.
-pub fn form_of(kind: KeyTable, key: &[u8]) -> ValueForm
+pub(crate) fn form_of(kind: KeyTable, key: &[u8]) -> ValueForm
     ensures { result ≡ forms.form_of kind key.now }
 {
     match kind {
@@ -272,7 +272,7 @@ pub fn form_of(kind: KeyTable, key: &[u8]) -> ValueForm
 }
 
 /// Whether a key of a table is optional.
-pub fn is_free(kind: KeyTable, key: &[u8]) -> bool
+pub(crate) fn is_free(kind: KeyTable, key: &[u8]) -> bool
     ensures { result ≡ forms.is_free kind key.now }
 {
     match kind {
@@ -325,7 +325,7 @@ fn node_keys(is_loop: bool) -> &'static [&'static str]
 }
 
 /// The keys that a table may have.
-pub fn own_keys(kind: KeyTable, table: &Table) -> &'static [&'static str]
+pub(crate) fn own_keys(kind: KeyTable, table: &Table) -> &'static [&'static str]
     ensures { map (λ key. key.now) result.now ≡ forms.own_keys kind (table_view table.now) }
 {
     match kind {

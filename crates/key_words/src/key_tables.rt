@@ -233,7 +233,7 @@ fn is_wrong(
 }
 
 /// Whether the refusal of a key holds of a table. The only error is out of memory.
-pub fn holds(
+pub(crate) fn holds(
     alloc: Global,
     kind: KeyTable,
     why: KeyFault,

@@ -40,7 +40,7 @@ fn is_item(alloc: Global, kind: ListItem, value: &Value) -> Result<bool, NoMemor
 }
 
 /// The first value that can't be in a list. The only error is out of memory.
-pub fn first_wrong<'v>(
+pub(crate) fn first_wrong<'v>(
     alloc: Global,
     kind: ListItem,
     values: &'v [Value],
@@ -60,7 +60,7 @@ pub fn first_wrong<'v>(
 }
 
 /// Whether a value is a list of such texts alone.
-pub fn are_listed(alloc: Global, kind: ListedText, value: &Value) -> Result<bool, NoMemory>
+pub(crate) fn are_listed(alloc: Global, kind: ListedText, value: &Value) -> Result<bool, NoMemory>
     ensures { IfOk result (λ yes. yes ≡ lists.are_listed kind (view value.now)) }
 {
     match value.as_array() {
@@ -103,7 +103,7 @@ fn rule_items_at(key: &[u8]) -> Option<ListItem>
 }
 
 /// What the values of the list at a key are.
-pub fn items_at(key: &[u8]) -> Option<ListItem>
+pub(crate) fn items_at(key: &[u8]) -> Option<ListItem>
     ensures { result ≡ lists.items_at key.now }
 {
     if key == b"elements".as_slice() {

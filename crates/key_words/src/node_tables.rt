@@ -50,7 +50,7 @@ fn push_nodes<'t>(tables: &mut Vec<&'t Table>, values: &'t [Value]) -> Result<()
 }
 
 /// The tables of all nodes, in the order of their numbers. The only error is out of memory.
-pub fn node_tables<'t>(alloc: Global, top: &'t Table) -> Result<Vec<&'t Table>, NoMemory>
+pub(crate) fn node_tables<'t>(alloc: Global, top: &'t Table) -> Result<Vec<&'t Table>, NoMemory>
     ensures { IfOk result (λ tables. map (λ t. table_view t.now) tables.items ≡ nodes.inner_tables (table_view top.entry.now)) }
 {
     let mut tables = Vec::new(alloc);
@@ -59,7 +59,7 @@ pub fn node_tables<'t>(alloc: Global, top: &'t Table) -> Result<Vec<&'t Table>, 
 }
 
 /// The table of the node with a number, from 1 on. The only error is out of memory.
-pub fn node_table<'t>(
+pub(crate) fn node_table<'t>(
     alloc: Global,
     top: &'t Table,
     number: u32,

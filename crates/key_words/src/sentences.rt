@@ -62,7 +62,7 @@ fn append_fault(
 }
 
 /// Adds where a key is, where that is found, and what is wrong with it.
-pub fn append_spot(
+pub(crate) fn append_spot(
     alloc: Global,
     out: &mut Vec<u8>,
     refused: RefusedKey<'_>,

@@ -45,7 +45,7 @@ fn below_setup<'t>(
 }
 
 /// The table of a setup file in which a refused key is. The only error is out of memory.
-pub fn setup_spot<'t>(
+pub(crate) fn setup_spot<'t>(
     alloc: Global,
     refused: RefusedKey<'_>,
     top: &'t Table,
@@ -60,7 +60,7 @@ pub fn setup_spot<'t>(
 }
 
 /// The spot of the first key of a counters file that is refused.
-pub fn counters_spot<'t>(
+pub(crate) fn counters_spot<'t>(
     alloc: Global,
     refused: RefusedKey<'_>,
     top: &'t Table,

@@ -16,7 +16,7 @@ pub(crate) fn digit(n: u8) -> u8
 }
 
 /// Whether a byte can't be seen.
-pub fn is_control(byte: u8) -> bool
+pub(crate) fn is_control(byte: u8) -> bool
     ensures { result ≡ shown.is_control byte }
 {
     byte < 32 || byte == 127
@@ -51,7 +51,7 @@ fn append_bytes(out: &mut Vec<u8>, text: &[u8]) -> Result<(), NoMemory>
 }
 
 /// Adds a text in quotes, what can't be seen as TOML escapes it.
-pub fn append_shown_text(out: &mut Vec<u8>, text: &[u8]) -> Result<(), NoMemory>
+pub(crate) fn append_shown_text(out: &mut Vec<u8>, text: &[u8]) -> Result<(), NoMemory>
     ensures { OnOk result (out.new.items ≡ out.old.items ++ shown.shown_text text.now) }
 {
     append(out, b"\"")?;
@@ -91,7 +91,7 @@ fn append_list(out: &mut Vec<u8>, values: &[Value]) -> Result<(), NoMemory>
 }
 
 /// Adds a value of a file; of a list how long it is.
-pub fn append_shown(out: &mut Vec<u8>, value: &Value) -> Result<(), NoMemory>
+pub(crate) fn append_shown(out: &mut Vec<u8>, value: &Value) -> Result<(), NoMemory>
     ensures { OnOk result (out.new.items ≡ out.old.items ++ shown.shown (view value.now)) }
 {
     match value {

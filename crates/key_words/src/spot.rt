@@ -28,7 +28,7 @@ pub struct RefusedKey<'k> {
 }
 
 /// A table, where there is one and the refusal holds of it.
-pub fn table_spot<'t>(
+pub(crate) fn table_spot<'t>(
     alloc: Global,
     kind: KeyTable,
     number: u64,
@@ -75,7 +75,7 @@ fn row_spot<'t>(
 }
 
 /// The spot in the rows at a key of the top table.
-pub fn rows_spot<'t>(
+pub(crate) fn rows_spot<'t>(
     alloc: Global,
     kind: KeyTable,
     rows: &str,
@@ -95,7 +95,7 @@ pub fn rows_spot<'t>(
 }
 
 /// The table at a key of the top table, where there is one.
-pub fn inner_table<'t>(top: &'t Table, inner: &str) -> Option<&'t Table>
+pub(crate) fn inner_table<'t>(top: &'t Table, inner: &str) -> Option<&'t Table>
     ensures { option_map (λ t. table_view t.now) result
         ≡ option_and_then as_table (get_member inner.now (table_view top.entry.now)) }
 {
@@ -106,7 +106,7 @@ pub fn inner_table<'t>(top: &'t Table, inner: &str) -> Option<&'t Table>
 }
 
 /// The table at a key of the top table, where there is one and the refusal holds of it.
-pub fn inner_spot<'t>(
+pub(crate) fn inner_spot<'t>(
     alloc: Global,
     kind: KeyTable,
     inner: &str,

@@ -79,7 +79,7 @@ fn push_nodes<'t>(spots: &mut Vec<Spot<'t>>, tables: &[&'t Table]) -> Result<(),
 }
 
 /// The tables of a setup file. The only error is out of memory.
-pub fn setup_spots<'t>(alloc: Global, top: &'t Table) -> Result<Vec<Spot<'t>>, NoMemory>
+pub(crate) fn setup_spots<'t>(alloc: Global, top: &'t Table) -> Result<Vec<Spot<'t>>, NoMemory>
     ensures { IfOk result (λ spots. map seen spots.items ≡ said.setup_spots (table_view top.entry.now)) }
 {
     let mut spots = Vec::new(alloc);
@@ -91,7 +91,7 @@ pub fn setup_spots<'t>(alloc: Global, top: &'t Table) -> Result<Vec<Spot<'t>>, N
 }
 
 /// All spots of a counters file.
-pub fn counters_spots<'t>(alloc: Global, top: &'t Table) -> Result<Vec<Spot<'t>>, NoMemory>
+pub(crate) fn counters_spots<'t>(alloc: Global, top: &'t Table) -> Result<Vec<Spot<'t>>, NoMemory>
     ensures { IfOk result (λ spots. map seen spots.items ≡ said.counters_spots (table_view top.entry.now)) }
 {
     let mut spots = Vec::new(alloc);
@@ -101,7 +101,7 @@ pub fn counters_spots<'t>(alloc: Global, top: &'t Table) -> Result<Vec<Spot<'t>>
 }
 
 /// All spots of a guide file.
-pub fn guide_spots<'t>(alloc: Global, top: &'t Table) -> Result<Vec<Spot<'t>>, NoMemory>
+pub(crate) fn guide_spots<'t>(alloc: Global, top: &'t Table) -> Result<Vec<Spot<'t>>, NoMemory>
     ensures { IfOk result (λ spots. map seen spots.items ≡ said.guide_spots (table_view top.entry.now)) }
 {
     let nodes = node_tables(alloc, top)?;

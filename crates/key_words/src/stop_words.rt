@@ -74,7 +74,7 @@ fn append_at(out: &mut Vec<u8>, token: &Option<Lent<'_>>, wanted: Wanted) -> Res
 }
 
 /// Adds where the text of a data element's row stops, and what may be there.
-pub fn append_stop(out: &mut Vec<u8>, stop: &ElementStop<'_>) -> Result<(), NoMemory>
+pub(crate) fn append_stop(out: &mut Vec<u8>, stop: &ElementStop<'_>) -> Result<(), NoMemory>
     ensures { OnOk result (out.new.items ≡ out.old.items ++ words.stop_words stop.now) }
 {
     append_component(out, stop.component)?;

@@ -63,7 +63,7 @@ fn node_name<'t>(table: &'t Table) -> &'t [u8]
 }
 
 /// Adds the table in which a key is, before what is said of the key.
-pub fn append_table(out: &mut Vec<u8>, spot: &Spot<'_>) -> Result<(), NoMemory>
+pub(crate) fn append_table(out: &mut Vec<u8>, spot: &Spot<'_>) -> Result<(), NoMemory>
     ensures { OnOk result (out.new.items ≡ out.old.items
         ++ words.table_words spot.now.kind spot.now.number (table_view spot.now.table.now)) }
 {

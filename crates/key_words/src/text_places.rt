@@ -114,7 +114,7 @@ fn append_standing(out: &mut Vec<u8>, rest: &[u8]) -> Result<(), NoMemory>
 }
 
 /// Adds a place in a file, what is wrong there, and what is there.
-pub fn append_said_at(
+pub(crate) fn append_said_at(
     out: &mut Vec<u8>,
     bytes: &[u8],
     offset: usize,

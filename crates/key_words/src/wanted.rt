@@ -58,7 +58,7 @@ fn guide_number_wanted(key: &[u8]) -> &'static [u8]
 }
 
 /// What the value of a key of a guide file must be.
-pub fn guide_wanted(key: &[u8]) -> &'static [u8]
+pub(crate) fn guide_wanted(key: &[u8]) -> &'static [u8]
     ensures { result.now ≡ wanted.guide_wanted key.now }
 {
     if key == b"group".as_slice() {
@@ -113,7 +113,7 @@ fn setup_number_wanted(key: &[u8]) -> &'static [u8]
 }
 
 /// What the value of a key of a setup file or a counters file must be.
-pub fn setup_wanted(key: &[u8]) -> &'static [u8]
+pub(crate) fn setup_wanted(key: &[u8]) -> &'static [u8]
     ensures { result.now ≡ wanted.setup_wanted key.now }
 {
     if key == b"usage".as_slice() {

@@ -10,7 +10,7 @@ use guide_tree::Node;
 use hub_kinds::NoMemory;
 
 /// Nothing of the nodes from `from` on comes.
-pub fn unused<'a>(
+pub(crate) fn unused<'a>(
     found: &mut Found<'a>,
     at: u64,
     outer: &'a [u8],
@@ -26,7 +26,7 @@ pub fn unused<'a>(
 }
 
 /// The nodes from `from` on up to `child` are passed over, and the child has a use.
-pub fn entered<'a>(
+pub(crate) fn entered<'a>(
     found: &mut Found<'a>,
     at: u64,
     outer: &'a [u8],
@@ -49,7 +49,7 @@ pub fn entered<'a>(
 
 /// After a place in a node its children end.
 #[cycle(ends)]
-pub fn ended_in<'a>(
+pub(crate) fn ended_in<'a>(
     found: &mut Found<'a>,
     at: u64,
     node: &'a Node,
@@ -66,7 +66,7 @@ pub fn ended_in<'a>(
 
 /// After a place the nodes in which it is end.
 #[cycle(ends)]
-pub fn ended<'a>(
+pub(crate) fn ended<'a>(
     found: &mut Found<'a>,
     at: u64,
     outer: &'a [u8],

@@ -162,7 +162,12 @@ fn turn_among<'a>(
 }
 
 /// The turn from the last place, or from the beginning, to the place that the segment is given.
-pub fn turn_from<'a>(nodes: &'a [Node], last: &[Step], uses: u64, seg: &SegView) -> Option<Turn<'a>>
+pub(crate) fn turn_from<'a>(
+    nodes: &'a [Node],
+    last: &[Step],
+    uses: u64,
+    seg: &SegView,
+) -> Option<Turn<'a>>
     requires room { AllByRecursion (λ s. s.use_no < uses) last.now }
     requires few { uses + 1 < 2 ^ 64 }
     ensures turn { option_map (turned (place_view last.now)) result

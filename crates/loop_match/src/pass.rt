@@ -76,7 +76,7 @@ fn pass_end<'a>(pass: &mut Pass<'a>, guide: &'a Guide, at: u64) -> Result<(), No
 }
 
 /// Goes over a body.
-pub fn pass_all<'a, 'g: 'a, N: NextPlace<'g>>(
+pub(crate) fn pass_all<'a, 'g: 'a, N: NextPlace<'g>>(
     alloc: Global,
     segs: &[SegView<'a>],
     next: &N,

@@ -6,7 +6,7 @@ use crate::next::Step;
 use guide_tree::{Node, Slot};
 
 /// The slot that a place leads to.
-pub fn slot_at<'g>(nodes: &'g [Node], place: &[Step]) -> Option<&'g Slot>
+pub(crate) fn slot_at<'g>(nodes: &'g [Node], place: &[Step]) -> Option<&'g Slot>
     ensures { option_map (λ s. s.now) result ≡ slot_at (nodes_view nodes.entry.now) (place_view place.now) }
 {
     let mut inside = nodes;

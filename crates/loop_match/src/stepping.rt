@@ -12,7 +12,7 @@ use hub_kinds::NoMemory;
 
 /// From a place in a node to one that follows it in the same node.
 #[cycle(steps)]
-pub fn stepped_in<'a>(
+pub(crate) fn stepped_in<'a>(
     found: &mut Found<'a>,
     at: u64,
     node: &'a Node,
@@ -30,7 +30,7 @@ pub fn stepped_in<'a>(
 
 /// From a place among the nodes of one parent to one that follows it.
 #[cycle(steps)]
-pub fn stepped<'a>(
+pub(crate) fn stepped<'a>(
     found: &mut Found<'a>,
     at: u64,
     outer: &'a [u8],

@@ -34,7 +34,7 @@ pub fn step<'a>(
 }
 
 /// A step by `next`, which may know that nothing shows.
-pub fn step_by<'a, 'g: 'a, N: NextPlace<'g>>(
+pub(crate) fn step_by<'a, 'g: 'a, N: NextPlace<'g>>(
     found: &mut Found<'a>,
     at: u64,
     by: &N,

@@ -61,7 +61,7 @@ fn fits_somewhere(nodes: &[Node], seg: &SegView) -> bool
 }
 
 /// Why a segment has no place.
-pub fn stray_code(guide: &Guide, seg: &SegView) -> SegmentCode
+pub(crate) fn stray_code(guide: &Guide, seg: &SegView) -> SegmentCode
     ensures { result ≡ stray_code (guide_of guide.now) (elements_of seg.now) }
 {
     let nodes = guide.rows().nodes.as_slice();

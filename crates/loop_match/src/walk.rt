@@ -45,7 +45,7 @@ fn go(last: &mut Vec<Step>, turn: &Turn) -> Result<(), NoMemory>
 }
 
 /// Gives the segment its place and its slot, and says whether there is one.
-pub fn place_one<'a, 'g: 'a, N: NextPlace<'g>>(
+pub(crate) fn place_one<'a, 'g: 'a, N: NextPlace<'g>>(
     walk: &mut Walk<'a>,
     next: &N,
     uses: u64,

@@ -15,7 +15,7 @@ pub struct NamedText<'a> {
 }
 
 /// Puts files into an outbox, one after another, up to the first that can't be put.
-pub fn put_all<B: Outbox>(outbox: &mut B, files: Vec<NamedText>) -> Result<(), PutFault>
+pub(crate) fn put_all<B: Outbox>(outbox: &mut B, files: Vec<NamedText>) -> Result<(), PutFault>
     requires { B.faults outbox.old < 18446744073709551615 }
     ensures all { OnOk result (AddsFiles (B.contents outbox.old) (B.contents outbox.new)
         (map file_of files.entry.items)) }

@@ -46,7 +46,7 @@ fn are_delimiters(element: u8, component: u8, repetition: u8, terminator: u8) ->
 }
 
 /// The delimiters of a partner's row, where they are what they must be.
-pub fn delims_of(partner: &PartnerRow) -> Option<Delims>
+pub(crate) fn delims_of(partner: &PartnerRow) -> Option<Delims>
     ensures { result ≡ faults.delims_of partner.now }
 {
     let element = byte_of(partner.element.as_slice())?;
@@ -71,7 +71,7 @@ fn lacks_delimiters(partner: &PartnerRow) -> bool
 }
 
 /// The first partner whose four delimiters aren't single bytes that are allowed and differ.
-pub fn bad_delimiters(partners: &[PartnerRow]) -> Option<usize>
+pub(crate) fn bad_delimiters(partners: &[PartnerRow]) -> Option<usize>
     ensures { result ≡ faults.bad_delimiters partners.now }
 {
     for i in 0..partners.len() {

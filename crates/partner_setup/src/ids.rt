@@ -7,7 +7,7 @@ use crate::setup_fault::IdOwner;
 use hub_kinds::is_alphanumeric;
 
 /// Letters, digits, `-`, `.` and `_`.
-pub fn is_name_byte(byte: u8) -> bool
+pub(crate) fn is_name_byte(byte: u8) -> bool
     ensures { result ≡ faults.is_name_byte byte }
 {
     byte.is_ascii_alphanumeric() || byte == b'-' || byte == b'.' || byte == b'_'
@@ -70,7 +70,7 @@ fn lacks_ids(partners: &[PartnerRow]) -> Option<usize>
 }
 
 /// Whose qualifier, id or code, or whose name as a partner, hasn't its form.
-pub fn bad_id(rows: &SetupRows) -> Option<IdOwner>
+pub(crate) fn bad_id(rows: &SetupRows) -> Option<IdOwner>
     ensures { result ≡ faults.bad_id rows.now }
 {
     let hub = &rows.hub;

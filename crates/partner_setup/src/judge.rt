@@ -62,7 +62,7 @@ fn push_some(places: &mut Vec<usize>, place: Option<usize>) -> Result<(), NoMemo
 }
 
 /// The places of names, of those that are there.
-pub fn places_of(
+pub(crate) fn places_of(
     alloc: Global,
     places: &BTreeMap<&[u8], usize>,
     names: &[Text],
@@ -317,7 +317,7 @@ fn fault_of_names(
 }
 
 /// The first refusal of rows, counters and guides that are to make a setup.
-pub fn first_fault(
+pub(crate) fn first_fault(
     alloc: Global,
     rows: &SetupRows,
     counters: &[CounterRow],

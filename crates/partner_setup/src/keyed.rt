@@ -10,14 +10,14 @@ use toml::Table;
 use toml_keys::{AnyText, Count, FileFault, required};
 
 /// The text at a key.
-pub fn text_at(alloc: Global, table: &Table, key: &'static str) -> Result<Text, FileFault>
+pub(crate) fn text_at(alloc: Global, table: &Table, key: &'static str) -> Result<Text, FileFault>
     ensures { Gives result (tables.required as_str key.now (table_view table.now)) }
 {
     required(alloc, table, key, &AnyText)
 }
 
 /// The number of 0 to 4,294,967,295 at a key.
-pub fn count_at(alloc: Global, table: &Table, key: &'static str) -> Result<u32, FileFault>
+pub(crate) fn count_at(alloc: Global, table: &Table, key: &'static str) -> Result<u32, FileFault>
     ensures { Gives result (tables.required tables.count_of_data key.now (table_view table.now)) }
 {
     required(alloc, table, key, &Count)

@@ -36,7 +36,7 @@ impl Kept for Route {
 }
 
 /// The first places of the keys of rows.
-pub fn places_by_key<T: Kept>(
+pub(crate) fn places_by_key<T: Kept>(
     alloc: Global,
     rows: &[T],
 ) -> Result<BTreeMap<Vec<u8>, usize>, NoMemory>
@@ -52,7 +52,7 @@ pub fn places_by_key<T: Kept>(
 }
 
 /// The first place of a key.
-pub fn place_in(table: &BTreeMap<Vec<u8>, usize>, key: &[u8]) -> Option<usize>
+pub(crate) fn place_in(table: &BTreeMap<Vec<u8>, usize>, key: &[u8]) -> Option<usize>
     ensures { (keys : List (List ℕ)) → KeepsPlaces table.now 0 keys → result ≡ place_of keys key.now }
 {
     table.get(key).copied()

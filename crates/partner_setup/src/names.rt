@@ -45,7 +45,7 @@ impl Named for Guide {
 }
 
 /// The first places of the names of rows.
-pub fn places_by_name<'a, T: Named>(
+pub(crate) fn places_by_name<'a, T: Named>(
     alloc: Global,
     rows: &'a [T],
 ) -> Result<BTreeMap<&'a [u8], usize>, NoMemory>
@@ -60,14 +60,14 @@ pub fn places_by_name<'a, T: Named>(
 }
 
 /// The first place of a name.
-pub fn place_of(places: &BTreeMap<&[u8], usize>, name: &[u8]) -> Option<usize>
+pub(crate) fn place_of(places: &BTreeMap<&[u8], usize>, name: &[u8]) -> Option<usize>
     ensures { (names : List (List ℕ)) → KnowsPlaces places.now 0 names → result ≡ place_of names name.now }
 {
     places.get(name).copied()
 }
 
 /// Whether a name is there.
-pub fn is_name(places: &BTreeMap<&[u8], usize>, name: &[u8]) -> bool
+pub(crate) fn is_name(places: &BTreeMap<&[u8], usize>, name: &[u8]) -> bool
     ensures { (names : List (List ℕ)) → KnowsPlaces places.now 0 names → result ≡ contains_text names name.now }
 {
     place_of(places, name).is_some()

@@ -34,7 +34,7 @@ fn push_row<T: Drop>(rows: &mut Vec<T>, row: T) -> Result<(), FileFault>
 }
 
 /// The rows of a list of tables, in their order.
-pub fn rows_in<R: RowReading>(
+pub(crate) fn rows_in<R: RowReading>(
     alloc: Global,
     reading: &R,
     values: &[Value],

@@ -19,7 +19,7 @@ pub struct Told<'a> {
 }
 
 /// What a name alone tells apart.
-pub fn by_name(name: &[u8]) -> Told<'_>
+pub(crate) fn by_name(name: &[u8]) -> Told<'_>
     ensures first { result.first.now ≡ name.entry.now }
     ensures second { result.second.now ≡ [] }
     ensures third { result.third.now ≡ [] }

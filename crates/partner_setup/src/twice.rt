@@ -115,14 +115,14 @@ fn told_apart<'a, K: Tells>(alloc: Global, rows: &'a [K::Row]) -> Result<Vec<Tol
 }
 
 /// Whether two rows can't be distinguished.
-pub fn given_twice<K: Tells>(alloc: Global, rows: &[K::Row]) -> Result<bool, NoMemory>
+pub(crate) fn given_twice<K: Tells>(alloc: Global, rows: &[K::Row]) -> Result<bool, NoMemory>
     ensures { IfOk result (λ twice. twice ≡ has_twice K.tells rows.now) }
 {
     Ok(has_twice(told_apart::<K>(alloc, rows)?))
 }
 
 /// The place of the first row that can't be distinguished from one after it.
-pub fn first_twin<'a, K: Tells>(
+pub(crate) fn first_twin<'a, K: Tells>(
     alloc: Global,
     rows: &'a [K::Row],
 ) -> Result<Option<usize>, NoMemory>

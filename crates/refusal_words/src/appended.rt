@@ -32,7 +32,7 @@ fn append_name(out: &mut Vec<u8>, name: &[u8]) -> Result<(), NoMemory>
 }
 
 /// Adds `KIND NUMBER (NAME)`.
-pub fn append_place(
+pub(crate) fn append_place(
     out: &mut Vec<u8>,
     kind: &[u8],
     number: u64,
@@ -74,7 +74,7 @@ pub fn append_one(
 }
 
 /// Adds two numbers, each after a text.
-pub fn append_two(
+pub(crate) fn append_two(
     out: &mut Vec<u8>,
     before: &[u8],
     number: u64,
@@ -90,7 +90,7 @@ pub fn append_two(
 }
 
 /// Adds an id in quotes, and what is said of it.
-pub fn append_quoted(out: &mut Vec<u8>, id: &[u8], text: &[u8]) -> Result<(), NoMemory>
+pub(crate) fn append_quoted(out: &mut Vec<u8>, id: &[u8], text: &[u8]) -> Result<(), NoMemory>
     ensures { OnOk result (out.new.items ≡ out.old.items ++ quoted id.now text.now) }
 {
     append(out, b"\"")?;

@@ -211,7 +211,7 @@ fn loop_cause(head: &Loop) -> Option<NodeCause>
 }
 
 /// The first of a node's bounds that it doesn't keep.
-pub fn bounds_cause(node: &Node) -> Option<NodeCause>
+pub(crate) fn bounds_cause(node: &Node) -> Option<NodeCause>
     ensures { result ≡ bounds.bounds_cause (view node.now) }
 {
     match node {

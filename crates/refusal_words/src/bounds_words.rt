@@ -99,7 +99,7 @@ fn kind_of(node: &Node) -> &'static [u8]
 }
 
 /// Adds which bound this node doesn't keep, and the number of its slot. The only error is out of memory.
-pub fn append_node(out: &mut Vec<u8>, slot: u32, node: &Node) -> Result<(), NoMemory>
+pub(crate) fn append_node(out: &mut Vec<u8>, slot: u32, node: &Node) -> Result<(), NoMemory>
     ensures { OnOk result (out.new.items ≡ out.old.items ++ words.node_words slot (view node.now)) }
 {
     append_in_place(out, kind_of(node), u64::from(slot), id_of(Some(node)))?;
@@ -116,7 +116,7 @@ fn append_found(out: &mut Vec<u8>, slot: u32, node: Option<&Node>) -> Result<(),
 }
 
 /// Adds which bound the node with this number doesn't keep.
-pub fn append_bounds(out: &mut Vec<u8>, slot: u32, nodes: &[Node]) -> Result<(), NoMemory>
+pub(crate) fn append_bounds(out: &mut Vec<u8>, slot: u32, nodes: &[Node]) -> Result<(), NoMemory>
     ensures { OnOk result (out.new.items ≡ out.old.items
         ++ words.bounds_words slot (nodes_of.numbered_node slot (numbered 1 (nodes_view nodes.now)))) }
 {

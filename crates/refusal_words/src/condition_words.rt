@@ -60,7 +60,7 @@ fn append_said(out: &mut Vec<u8>, node: &Node) -> Result<(), NoMemory>
 }
 
 /// Adds what of this node's conditions, picks or label can't be, and the number of its slot. The only error is out of memory.
-pub fn append_node(out: &mut Vec<u8>, slot: u32, node: &Node) -> Result<(), NoMemory>
+pub(crate) fn append_node(out: &mut Vec<u8>, slot: u32, node: &Node) -> Result<(), NoMemory>
     ensures { OnOk result (out.new.items ≡ out.old.items ++ words.node_words slot (view node.now)) }
 {
     append_in_place(out, b"segment", u64::from(slot), id_of(Some(node)))?;
@@ -77,7 +77,7 @@ fn append_found(out: &mut Vec<u8>, slot: u32, node: Option<&Node>) -> Result<(),
 }
 
 /// Adds what of the conditions, the picks or the label of the segment with this number can't be; 0 is none.
-pub fn append_condition(out: &mut Vec<u8>, slot: u32, nodes: &[Node]) -> Result<(), NoMemory>
+pub(crate) fn append_condition(out: &mut Vec<u8>, slot: u32, nodes: &[Node]) -> Result<(), NoMemory>
     ensures { OnOk result (out.new.items ≡ out.old.items
         ++ words.condition_words slot (nodes_of.numbered_node slot (numbered 1 (nodes_view nodes.now)))) }
 {

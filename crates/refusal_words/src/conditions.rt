@@ -86,7 +86,7 @@ fn picks_cause(slot: &Slot, picks: &[Pick]) -> Option<ConditionCause>
 }
 
 /// The first that can't be; none where an element or a label is twice, or all can be.
-pub fn condition_cause(slot: &Slot) -> Option<ConditionCause>
+pub(crate) fn condition_cause(slot: &Slot) -> Option<ConditionCause>
     ensures { result ≡ conditions.condition_cause slot.now }
 {
     let listed = slot.conditions.as_slice();

@@ -8,7 +8,7 @@ use hub_kinds::NoMemory;
 use partner_setup::PartnerRow;
 
 /// The key of a delimiter in a setup file, in backticks.
-pub fn key_words(delimiter: Delimiter) -> &'static [u8]
+pub(crate) fn key_words(delimiter: Delimiter) -> &'static [u8]
     ensures { result.now ≡ words.key_words delimiter }
 {
     match delimiter {
@@ -69,7 +69,7 @@ fn append_cause(out: &mut Vec<u8>, cause: DelimiterCause) -> Result<(), NoMemory
 }
 
 /// Adds what is wrong with a partner's delimiters.
-pub fn append_delimiters(out: &mut Vec<u8>, partner: &PartnerRow) -> Result<(), NoMemory>
+pub(crate) fn append_delimiters(out: &mut Vec<u8>, partner: &PartnerRow) -> Result<(), NoMemory>
     ensures { OnOk result (out.new.items ≡ out.old.items ++ words.delimiters_words partner.now) }
 {
     match delimiters_cause(partner) {

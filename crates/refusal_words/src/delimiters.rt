@@ -143,7 +143,7 @@ fn same_causes(
 }
 
 /// The first that is wrong with a partner's delimiters.
-pub fn delimiters_cause(partner: &PartnerRow) -> Option<DelimiterCause>
+pub(crate) fn delimiters_cause(partner: &PartnerRow) -> Option<DelimiterCause>
     ensures { result ≡ delimiters.delimiters_cause partner.now }
 {
     let found = bytes_cause(partner);

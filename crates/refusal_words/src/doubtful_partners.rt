@@ -65,7 +65,7 @@ fn push_delimiter(
 }
 
 /// Adds the delimiters of a partner that texts often hold.
-pub fn push_delimiters(
+pub(crate) fn push_delimiters(
     alloc: Global,
     found: &mut Vec<Text>,
     number: u64,

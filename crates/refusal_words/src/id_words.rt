@@ -14,7 +14,7 @@ fn append_form(out: &mut Vec<u8>, kind: &[u8], text: &[u8], said: &[u8]) -> Resu
 }
 
 /// Adds what is wrong with an application code; nothing where it has its form.
-pub fn append_code(out: &mut Vec<u8>, code: &[u8]) -> Result<(), NoMemory>
+pub(crate) fn append_code(out: &mut Vec<u8>, code: &[u8]) -> Result<(), NoMemory>
     ensures { OnOk result (out.new.items ≡ out.old.items ++ words.code_words code.now) }
 {
     if is_id(code, 2, 15) {
@@ -73,7 +73,7 @@ fn append_named(
 }
 
 /// Adds which of a partner's name, qualifier, id and code hasn't its form.
-pub fn append_partner_ids(out: &mut Vec<u8>, partner: &PartnerRow) -> Result<(), NoMemory>
+pub(crate) fn append_partner_ids(out: &mut Vec<u8>, partner: &PartnerRow) -> Result<(), NoMemory>
     ensures { OnOk result (out.new.items ≡ out.old.items ++ words.partner_words partner.now) }
 {
     append_named(
@@ -86,7 +86,7 @@ pub fn append_partner_ids(out: &mut Vec<u8>, partner: &PartnerRow) -> Result<(),
 }
 
 /// Adds which of the hub's qualifier, id and code hasn't its form.
-pub fn append_hub_ids(out: &mut Vec<u8>, hub: &HubRow) -> Result<(), NoMemory>
+pub(crate) fn append_hub_ids(out: &mut Vec<u8>, hub: &HubRow) -> Result<(), NoMemory>
     ensures { OnOk result (out.new.items ≡ out.old.items ++ words.hub_words hub.now) }
 {
     append_ids(

@@ -48,14 +48,14 @@ impl Named for Text {
 }
 
 /// Whether some row has the name.
-pub fn is_named<T: Named>(rows: &[T], text: &[u8]) -> bool
+pub(crate) fn is_named<T: Named>(rows: &[T], text: &[u8]) -> bool
     ensures { result ≡ names.is_named T.name rows.now text.now }
 {
     rows.iter().any(|row| row.name() == text)
 }
 
 /// The first text that no row has as its name.
-pub fn first_unknown<'a, T: Named>(rows: &[T], texts: &'a [Text]) -> Option<&'a [u8]>
+pub(crate) fn first_unknown<'a, T: Named>(rows: &[T], texts: &'a [Text]) -> Option<&'a [u8]>
     ensures { option_map (λ t. t.now) result ≡ names.first_unknown T.name rows.now texts.entry.now }
 {
     for i in 0..texts.len() {
@@ -67,7 +67,7 @@ pub fn first_unknown<'a, T: Named>(rows: &[T], texts: &'a [Text]) -> Option<&'a 
 }
 
 /// The number, from 1 on, of the first row after this place that has the name.
-pub fn next_named<T: Named>(rows: &[T], place: usize, text: &[u8]) -> Option<u64>
+pub(crate) fn next_named<T: Named>(rows: &[T], place: usize, text: &[u8]) -> Option<u64>
     requires { place < length rows.now }
     ensures { result ≡ names.next_named T.name rows.now place text.now }
 {
@@ -80,7 +80,7 @@ pub fn next_named<T: Named>(rows: &[T], place: usize, text: &[u8]) -> Option<u64
 }
 
 /// The number, from 1 on, of the first partner after this place that has the qualifier and the id.
-pub fn next_sender(
+pub(crate) fn next_sender(
     partners: &[PartnerRow],
     place: usize,
     qualifier: &[u8],

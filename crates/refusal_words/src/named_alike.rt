@@ -106,7 +106,7 @@ fn push_known(
 }
 
 /// Adds the partners whose name differs from an earlier one's in case alone.
-pub fn push_named_alike(
+pub(crate) fn push_named_alike(
     alloc: Global,
     found: &mut Vec<Text>,
     partners: &[PartnerRow],

@@ -35,7 +35,7 @@ fn look<'a>(nodes: &'a [Node], place: u32) -> Search<'a>
 }
 
 /// The node with a number, as a guide counts its nodes: from 1 on, a loop before what is in it.
-pub fn node_at<'a>(nodes: &'a [Node], number: u32) -> Option<&'a Node>
+pub(crate) fn node_at<'a>(nodes: &'a [Node], number: u32) -> Option<&'a Node>
     ensures { with_number number (viewed result) ≡ numbered_node number (numbered 1 (nodes_view nodes.entry.now)) }
 {
     if number == 0 {
@@ -48,7 +48,7 @@ pub fn node_at<'a>(nodes: &'a [Node], number: u32) -> Option<&'a Node>
 }
 
 /// The id of a node's segment or loop; empty where there isn't a node.
-pub fn id_of<'a>(node: Option<&'a Node>) -> &'a [u8]
+pub(crate) fn id_of<'a>(node: Option<&'a Node>) -> &'a [u8]
     ensures { result.now ≡ option_map_or node_id (viewed node.entry) [] }
 {
     match node {
@@ -59,7 +59,7 @@ pub fn id_of<'a>(node: Option<&'a Node>) -> &'a [u8]
 }
 
 /// The id of the node with a number; empty where there is none.
-pub fn id_at<'a>(nodes: &'a [Node], number: u32) -> &'a [u8]
+pub(crate) fn id_at<'a>(nodes: &'a [Node], number: u32) -> &'a [u8]
     ensures { result.now ≡ id_at (numbered 1 (nodes_view nodes.entry.now)) number }
 {
     id_of(node_at(nodes, number))

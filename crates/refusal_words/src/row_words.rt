@@ -43,7 +43,7 @@ fn append_sender(out: &mut Vec<u8>, next: Option<u64>, partner: &PartnerRow) -> 
 }
 
 /// Adds what of the partner at this place a later one has too.
-pub fn append_same_partner(
+pub(crate) fn append_same_partner(
     out: &mut Vec<u8>,
     kept: &KeptRows,
     place: usize,
@@ -64,7 +64,7 @@ pub fn append_same_partner(
 }
 
 /// Adds what is wrong with a partner's cap.
-pub fn append_cap(out: &mut Vec<u8>, partner: &PartnerRow) -> Result<(), NoMemory>
+pub(crate) fn append_cap(out: &mut Vec<u8>, partner: &PartnerRow) -> Result<(), NoMemory>
     ensures { OnOk result (out.new.items ≡ out.old.items ++ words.cap_words partner.now) }
 {
     append_one(
@@ -88,7 +88,7 @@ fn first_unlisted<'a>(listed: &[Text], texts: &'a [Text]) -> Option<&'a [u8]>
 }
 
 /// Adds what is wrong with a partner's guides.
-pub fn append_guides(
+pub(crate) fn append_guides(
     out: &mut Vec<u8>,
     kept: &KeptRows,
     partner: &PartnerRow,
@@ -102,7 +102,7 @@ pub fn append_guides(
 }
 
 /// The first text that is again later.
-pub fn first_again(texts: &[Text]) -> Option<&[u8]>
+pub(crate) fn first_again(texts: &[Text]) -> Option<&[u8]>
     ensures { option_map (λ t. t.now) result ≡ words.first_again texts.entry.now }
 {
     for i in 0..texts.len() {
@@ -134,7 +134,7 @@ fn append_targets(
 }
 
 /// Adds what is wrong with the route at this place.
-pub fn append_route(
+pub(crate) fn append_route(
     out: &mut Vec<u8>,
     kept: &KeptRows,
     place: usize,
@@ -150,7 +150,7 @@ pub fn append_route(
 }
 
 /// Adds that the number at this key is out of 1 to 999,999,999. The only error is out of memory.
-pub fn append_number_of(out: &mut Vec<u8>, key: &[u8], number: u32) -> Result<(), NoMemory>
+pub(crate) fn append_number_of(out: &mut Vec<u8>, key: &[u8], number: u32) -> Result<(), NoMemory>
     ensures { OnOk result (out.new.items ≡ out.old.items ++ words.number_words key.now number) }
 {
     append(out, b"`")?;
@@ -177,7 +177,7 @@ fn append_counted(
 }
 
 /// Adds what is wrong with the counter at this place.
-pub fn append_counter(
+pub(crate) fn append_counter(
     out: &mut Vec<u8>,
     kept: &KeptRows,
     place: usize,

@@ -23,7 +23,7 @@ fn push_text(
 }
 
 /// Adds a sentence, where something is said.
-pub fn push_sentence(
+pub(crate) fn push_sentence(
     alloc: Global,
     found: &mut Vec<Text>,
     place: &[u8],
@@ -38,7 +38,12 @@ pub fn push_sentence(
 }
 
 /// `KIND NUMBER (NAME): `.
-pub fn place_of(alloc: Global, kind: &[u8], number: u64, name: &[u8]) -> Result<Vec<u8>, NoMemory>
+pub(crate) fn place_of(
+    alloc: Global,
+    kind: &[u8],
+    number: u64,
+    name: &[u8],
+) -> Result<Vec<u8>, NoMemory>
     ensures { IfOk result (λ place. place.items ≡ in_place kind.now number name.now) }
 {
     let mut place = Vec::new(alloc);

@@ -41,7 +41,7 @@ fn append_said(out: &mut Vec<u8>, node: &Node) -> Result<(), NoMemory>
 }
 
 /// Adds why this node doesn't begin as a loop has to, and the number of its slot. The only error is out of memory.
-pub fn append_node(out: &mut Vec<u8>, slot: u32, node: &Node) -> Result<(), NoMemory>
+pub(crate) fn append_node(out: &mut Vec<u8>, slot: u32, node: &Node) -> Result<(), NoMemory>
     ensures { OnOk result (out.new.items ≡ out.old.items ++ words.node_words slot (view node.now)) }
 {
     append_in_place(out, b"loop", u64::from(slot), id_of(Some(node)))?;
@@ -58,7 +58,7 @@ fn append_found(out: &mut Vec<u8>, slot: u32, node: Option<&Node>) -> Result<(),
 }
 
 /// Adds why the loop with this number doesn't begin as a loop has to.
-pub fn append_trigger(out: &mut Vec<u8>, slot: u32, nodes: &[Node]) -> Result<(), NoMemory>
+pub(crate) fn append_trigger(out: &mut Vec<u8>, slot: u32, nodes: &[Node]) -> Result<(), NoMemory>
     ensures { OnOk result (out.new.items ≡ out.old.items
         ++ words.trigger_words slot (nodes_of.numbered_node slot (numbered 1 (nodes_view nodes.now)))) }
 {

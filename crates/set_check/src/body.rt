@@ -33,7 +33,7 @@ fn inner_of<'s, 'a>(closed: bool, segs: &'s [SegView<'a>]) -> &'s [SegView<'a>]
 }
 
 /// The faults of the segments of a set by its guide, in their order, each once.
-pub fn body_faults<'a>(
+pub(crate) fn body_faults<'a>(
     alloc: Global,
     set: &SetSpan,
     segs: &[SegView<'a>],
@@ -51,7 +51,7 @@ pub fn body_faults<'a>(
 }
 
 /// The faults of a body by its compiled guide.
-pub fn body_faults_fast<'a, 'g: 'a>(
+pub(crate) fn body_faults_fast<'a, 'g: 'a>(
     alloc: Global,
     set: &SetSpan,
     segs: &[SegView<'a>],

@@ -62,7 +62,7 @@ fn add_elements<'a>(
 }
 
 /// The element faults of the segments that have a place.
-pub fn element_faults<'a>(
+pub(crate) fn element_faults<'a>(
     alloc: Global,
     segs: &[SegView<'a>],
     placing: &Placing<'a>,

@@ -7,14 +7,14 @@ ghost use Rattle.set_check.specs.Codes.{is_of_guides, reported, reported_by};
 use hub_kinds::{Fault, Lent, SegmentCode, code_text};
 
 /// Whether a fault is reported by a code of the standard.
-pub fn has_base_fault(faults: &[Fault]) -> bool
+pub(crate) fn has_base_fault(faults: &[Fault]) -> bool
     ensures { result ≡ list_any (λ f. option_map_or (λ c. not (is_of_guides c)) (reported f) false) faults.now }
 {
     faults.iter().any(|fault| is_of_standard(reported(fault)))
 }
 
 /// Whether a fault is reported by a code of the implementation guides.
-pub fn has_implementation_fault(faults: &[Fault]) -> bool
+pub(crate) fn has_implementation_fault(faults: &[Fault]) -> bool
     ensures { result ≡ list_any (λ f. option_map_or is_of_guides (reported f) false) faults.now }
 {
     faults

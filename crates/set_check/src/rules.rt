@@ -28,7 +28,7 @@ fn has_key_among(faults: &[Fault], fault: &Fault) -> bool
 }
 
 /// The faults of hierarchies and dependencies.
-pub fn rule_faults<'a>(
+pub(crate) fn rule_faults<'a>(
     alloc: Global,
     segs: &[SegView<'a>],
     placing: &Placing,
@@ -46,7 +46,7 @@ pub fn rule_faults<'a>(
 }
 
 /// The element faults, and of the other faults those whose key none of them has.
-pub fn with_others<'a>(
+pub(crate) fn with_others<'a>(
     errors: Vec<Fault<'a>>,
     others: Vec<Fault<'a>>,
 ) -> Result<Vec<Fault<'a>>, NoMemory>

@@ -17,7 +17,7 @@ use x12_bytes::Delims;
 pub const FEW: usize = 4;
 
 /// Whether there are few dependencies.
-pub fn are_few(depends: &[Dependency]) -> bool
+pub(crate) fn are_few(depends: &[Dependency]) -> bool
     ensures { result ≡ nat_le (length depends.now) FEW }
 {
     depends.len() <= FEW
@@ -107,7 +107,7 @@ fn keeps(delims: Delims, dependency: &Dependency, labelled: &[SlottedSeg]) -> bo
 }
 
 /// Whether the segments keep each of the dependencies.
-pub fn are_dependencies_kept(
+pub(crate) fn are_dependencies_kept(
     delims: Delims,
     depends: &[Dependency],
     labelled: &[SlottedSeg],

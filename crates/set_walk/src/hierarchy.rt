@@ -34,7 +34,7 @@ fn placed_of<'s, 'a, 'g>(
 }
 
 /// Whether surely nothing is wrong with the HLs of a set, by their names or else by all of each.
-pub fn is_hierarchy_kept(
+pub(crate) fn is_hierarchy_kept(
     alloc: Global,
     rule: &Option<HlRule>,
     delims: Delims,

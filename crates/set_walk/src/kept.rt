@@ -98,7 +98,7 @@ fn add_names_if<'a>(
 
 /// Keeps the next segment of a body, if rules look at it. The places of its element separators come with it, if it is plain.
 #[inline]
-pub fn keep<'a, 'g>(
+pub(crate) fn keep<'a, 'g>(
     kept: &mut Kept<'a, 'g>,
     seg: &SegView<'a>,
     plain: Option<&[usize]>,

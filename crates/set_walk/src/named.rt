@@ -35,7 +35,7 @@ fn element_at<'a>(seg: &SegView<'a>, separators: &[usize], k: usize) -> &'a [u8]
 }
 
 /// HL01 to HL04 of a segment, by the places of its element separators, if it is plain.
-pub fn names_of<'a>(seg: &SegView<'a>, plain: Option<&[usize]>) -> HlNames<'a>
+pub(crate) fn names_of<'a>(seg: &SegView<'a>, plain: Option<&[usize]>) -> HlNames<'a>
     requires { IfSome plain (λ separators. IsPlain separators.now seg.now) }
     ensures { result ≡ names_of (elements_of seg.now) }
 {

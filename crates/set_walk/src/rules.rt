@@ -14,7 +14,7 @@ use std::alloc::Global;
 use x12_bytes::Delims;
 
 /// Whether surely nothing is wrong with a set by its guide's rule of hierarchies and its dependencies, by what was kept of its segments.
-pub fn are_rules_kept(
+pub(crate) fn are_rules_kept(
     alloc: Global,
     rows: &GuideRows,
     delims: Delims,

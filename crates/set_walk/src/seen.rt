@@ -35,7 +35,7 @@ pub struct Seen<'a, 'g> {
 }
 
 /// Nothing.
-pub fn nothing_seen<'a, 'g>(alloc: Global) -> Seen<'a, 'g>
+pub(crate) fn nothing_seen<'a, 'g>(alloc: Global) -> Seen<'a, 'g>
     ensures { (g : GuideTree) → IsSeen g result [] }
 {
     Seen {
@@ -202,7 +202,7 @@ fn is_trailer(seg: &SegView) -> bool
 
 /// Sees the next segment, with the places of its element separators, if it is plain, and says whether the walk can continue: after the
 /// SE there is none, and a body may have too many.
-pub fn see<'a, 'g: 'a>(
+pub(crate) fn see<'a, 'g: 'a>(
     alloc: Global,
     seen: &mut Seen<'a, 'g>,
     fast: &FastGuide<'g>,

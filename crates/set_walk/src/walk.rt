@@ -32,7 +32,7 @@ pub struct Walk {
 
 /// Goes from the last place to the one to which a turn leads.
 #[inline(always)]
-pub fn move_on(last: &mut Vec<Step>, turn: &Turn) -> Result<(), NoMemory>
+pub(crate) fn move_on(last: &mut Vec<Step>, turn: &Turn) -> Result<(), NoMemory>
     requires { turn.now.depth ≤ length last.old.items }
     ensures { OnOk result (place_view last.new.items ≡ (turned (place_view last.old.items) turn.now).place) }
 {
@@ -51,7 +51,7 @@ pub fn move_on(last: &mut Vec<Step>, turn: &Turn) -> Result<(), NoMemory>
 }
 
 /// Writes the place that a turn leads to from the last one.
-pub fn write_place(next: &mut Vec<Step>, last: &[Step], turn: &Turn) -> Result<(), NoMemory>
+pub(crate) fn write_place(next: &mut Vec<Step>, last: &[Step], turn: &Turn) -> Result<(), NoMemory>
     requires { turn.now.depth ≤ length last.now }
     ensures { OnOk result (place_view next.new.items ≡ (turned (place_view last.now) turn.now).place) }
 {
@@ -62,7 +62,7 @@ pub fn write_place(next: &mut Vec<Step>, last: &[Step], turn: &Turn) -> Result<(
 
 /// Whether surely no element of the segment has a fault by the slot, by the places of its element separators, if it is plain.
 #[inline]
-pub fn looks_faultless(
+pub(crate) fn looks_faultless(
     fast: &FastGuide,
     seg: &SegView,
     slot: &Slot,
@@ -81,7 +81,7 @@ pub fn looks_faultless(
 
 /// What is wrong with a segment's elements by its slot, by the places of its element separators, if it is plain; nothing where it was
 /// seen to be faultless.
-pub fn errors_of<'a>(
+pub(crate) fn errors_of<'a>(
     alloc: Global,
     fast: &FastGuide,
     seg: &SegView<'a>,
@@ -102,7 +102,7 @@ pub fn errors_of<'a>(
 }
 
 /// Finds what shows at the next place after the last one.
-pub fn step_by<'a, 'g: 'a>(
+pub(crate) fn step_by<'a, 'g: 'a>(
     found: &mut Found<'a>,
     at: u64,
     fast: &FastGuide<'g>,
@@ -120,7 +120,7 @@ pub fn step_by<'a, 'g: 'a>(
 }
 
 /// Finds what shows after the body.
-pub fn end_by<'a, 'g: 'a>(
+pub(crate) fn end_by<'a, 'g: 'a>(
     found: &mut Found<'a>,
     at: u64,
     fast: &FastGuide<'g>,

@@ -67,7 +67,7 @@ pub enum Asked<'a> {
 }
 
 /// Reads the program's arguments without its name.
-pub fn read_words<'a, S: AsStr>(
+pub(crate) fn read_words<'a, S: AsStr>(
     alloc: Global,
     words: &'a [S],
 ) -> Result<Asked<'a>, TrackFailure<'a>>

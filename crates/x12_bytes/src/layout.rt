@@ -73,7 +73,7 @@ pub fn width_of(k: usize) -> usize
 
 /// Field `k` of a header's bytes.
 #[inline(always)]
-pub fn field(bytes: &[u8], k: usize) -> &[u8]
+pub(crate) fn field(bytes: &[u8], k: usize) -> &[u8]
     requires len { length bytes.now ≡ HEADER_LEN }
     requires from { 1 ≤ k }
     requires to { k ≤ 16 }

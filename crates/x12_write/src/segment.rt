@@ -42,7 +42,11 @@ pub fn append_used(out: &mut Vec<u8>, separator: u8, parts: &[&[u8]]) -> Result<
 }
 
 /// Writes each element after a separator.
-pub fn append_elements(out: &mut Vec<u8>, separator: u8, elements: &[&[u8]]) -> Result<(), NoMemory>
+pub(crate) fn append_elements(
+    out: &mut Vec<u8>,
+    separator: u8,
+    elements: &[&[u8]],
+) -> Result<(), NoMemory>
     ensures text { OnOk result
         (out.new.items ≡ out.old.items ++ elements_text separator (read elements.now)) }
     ensures kept { Extends out.old.items out.new.items }
