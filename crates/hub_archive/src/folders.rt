@@ -70,6 +70,7 @@ fn move_all<R: Files + AllocGlobal>(
     let nights = path_text(rt.alloc(), hub, b"nights")?;
     let archive = path_text(rt.alloc(), hub, b"archive")?;
     fs::create_dir_all(rt, archive.as_str())?;
+    sync(rt, hub)?;
     for i in 0..marks.len() {
         let name = marks[i].name.as_slice();
         if last.cmp(name) != Ordering::Less {
