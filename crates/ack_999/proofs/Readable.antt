@@ -17,7 +17,7 @@ use Rattle.ack_999.specs.Report.{head_segments, convention_text, set_segments, s
 use Rattle.ack_999.specs.Report.{group_response, set_trailer, segments_999}
 use Rattle.x12_write.specs.Segment.{WrittenSegment, segment}
 use Rattle.ack_999.proofs.Plain.{plain-set_code_text}
-use Rattle.x12_write.proofs.ForAbove.{is_plain, plain-undivided, decimal-undivided, padded_number-undivided}
+use Rattle.x12_write.proofs.ForAbove.{is_plain, plain-undivided, decimal-undivided, set_number-undivided}
 use Rattle.ack_999.proofs.Plain.{plain-group_code_text, plain-verdict_text, plain-group_verdict_text, plain-convention_text}
 use Rattle.ack_999.proofs.ReadBack.{IsReadable}
 use Rattle.ack_999.proofs.ReadableFaults.{readable, readable-faults}
@@ -38,7 +38,7 @@ readable-head d g n can functional_id control version =
     let st_all : All P st =
     All-from_recursion P st (
       plain-undivided d can (codes "999") refl,
-      (padded_number-undivided d can 4 n, (plain-undivided d can (codes "005010X231") refl, tt)),
+      (set_number-undivided d can n, (plain-undivided d can (codes "005010X231") refl, tt)),
     ) in
     let ak1_all : All P ak1 = All-from_recursion P ak1 (functional_id, (control, (version, tt))) in
     All-from_recursion (IsReadable d) (head_segments g n)
@@ -106,7 +106,7 @@ readable-trailer d count n can =
     let P : List ℕ → Type 0 = IsUndivided d in
     let se : List (List ℕ) = decimal count ∷ set_number n ∷ [] in
     readable d can (codes "SE") se (omega arith) refl refl
-    (All-from_recursion P se (decimal-undivided d can count, (padded_number-undivided d can 4 n, tt)))
+    (All-from_recursion P se (decimal-undivided d can count, (set_number-undivided d can n, tt)))
 
 -- all segments of an acknowledgment
 pub readable-999 : (d : Delims) (g : GroupAnswer) (sets : List SetAnswer) (n : ℕ) → CanDivide d → IsQuotable d g sets

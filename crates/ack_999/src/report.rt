@@ -106,7 +106,7 @@ pub fn append_set(out: &mut Vec<u8>, delims: &Delims, set: &SetAnswer) -> Result
             convention(set.convention.bytes()),
         ],
     )?;
-    append_faults(out, delims, set.faults.as_slice())?;
+    append_faults(out, delims, &set.faults)?;
     append_set_response(out, delims, set)
 }
 

@@ -42,7 +42,7 @@ impl Totals {
         ensures sets { received_sets self.new ≡ received_sets self.old + 1 }
         ensures countable { IsCountable self.new }
     {
-        self.fault_segments += u128::from(fault_segment_count(set.faults.as_slice()));
+        self.fault_segments += u128::from(fault_segment_count(&set.faults));
         match set.verdict {
             Verdict::Accepted => self.accepted += 1,
             Verdict::AcceptedWithErrors => self.accepted_with_errors += 1,

@@ -1,12 +1,5 @@
-pub mod CodeWords
-pub mod Elements
-pub mod Groups
-pub mod Interchanges
 pub mod Lines
-pub mod Notes
 pub mod Reported
-pub mod Segments
-pub mod Sets
 pub mod Shown
 pub mod Worded
 pub mod Words

@@ -1,15 +1,18 @@
-ghost use Rattle.std.specs.Prelude.{◌≡◌, ◌++◌, OnOk, IfOk, IsPermutation, codes, map};
+ghost use Rattle.std.specs.Prelude.{◌≡◌, ◌++◌, ◌∷◌, [], OnOk, IfOk, IsPermutation, decimal, map};
 ghost use Rattle.std.specs.List.{count_by, flat_map};
 ghost use Rattle.ack_lines.specs.Lines as lines;
 ghost use Rattle.ack_lines.specs.Reported.{reported_of, told_of};
+ghost use Rattle.ack_lines.specs.Shown.{filled};
 
 use crate::lines::{append_reported, is_accepted};
 use crate::notes::append_note_lines;
 use crate::reported::{Reported, reported_of};
-use crate::shown::{append_number, append_text};
+use crate::sentences::{TOTAL_SETS, TOTALS};
+use crate::shown::append_two;
 use ack_read::Told;
 use guide_names::Names;
 use hub_kinds::{Lent, NoMemory};
+use itoa::Buffer;
 use std::alloc::Global;
 
 /// The lines that say in words what is reported: one for each TA1, for each group and set that isn't accepted one a fault, and a last one
@@ -76,63 +79,6 @@ fn interchange_of(one: &Reported<'_>) -> u64
     }
 }
 
-fn append_totals(out: &mut Vec<u8>, all: &[Reported<'_>]) -> Result<(), NoMemory>
-    ensures { OnOk result (out.new.items ≡ out.old.items ++ lines.total_line (count_by lines.is_ta1 all.now)
-        (count_by lines.is_group all.now) (count_by lines.is_set all.now) (count_by lines.is_accepted_set all.now)) }
-{
-    append_text(out, "total")?;
-    append_count(out, "ta1s", ta1_count(all))?;
-    append_count(out, "groups", group_count(all))?;
-    append_count(out, "sets", set_count(all))?;
-    append_count(out, "accepted", accepted_count(all))?;
-    append_text(out, "\n")
-}
-
-fn append_count(out: &mut Vec<u8>, word: &str, count: usize) -> Result<(), NoMemory>
-    ensures { OnOk result (out.new.items ≡ out.old.items ++ lines.counted word.now count) }
-{
-    append_text(out, " ")?;
-    append_text(out, word)?;
-    append_text(out, " ")?;
-    append_number(out, count as u64)
-}
-
-fn ta1_count(all: &[Reported<'_>]) -> usize
-    ensures { result ≡ count_by lines.is_ta1 all.now }
-{
-    let mut count = 0;
-    for one in all {
-        if matches!(one, Reported::OfInterchange(_)) {
-            count += 1;
-        }
-    }
-    count
-}
-
-fn group_count(all: &[Reported<'_>]) -> usize
-    ensures { result ≡ count_by lines.is_group all.now }
-{
-    let mut count = 0;
-    for one in all {
-        if matches!(one, Reported::OfGroup(_)) {
-            count += 1;
-        }
-    }
-    count
-}
-
-fn set_count(all: &[Reported<'_>]) -> usize
-    ensures { result ≡ count_by lines.is_set all.now }
-{
-    let mut count = 0;
-    for one in all {
-        if matches!(one, Reported::OfSet(_, _)) {
-            count += 1;
-        }
-    }
-    count
-}
-
 /// Whether a set is accepted, with or without errors, and its group isn't rejected.
 fn is_accepted_set(one: &Reported<'_>) -> bool
     ensures { result ≡ lines.is_accepted_set one.now }
@@ -144,16 +90,61 @@ fn is_accepted_set(one: &Reported<'_>) -> bool
     }
 }
 
+fn ta1_count(all: &[Reported<'_>]) -> usize
+    ensures { result ≡ count_by lines.is_ta1 all.now }
+{
+    all.iter()
+        .filter(|one| matches!(one, Reported::OfInterchange(_)))
+        .count()
+}
+
+fn group_count(all: &[Reported<'_>]) -> usize
+    ensures { result ≡ count_by lines.is_group all.now }
+{
+    all.iter()
+        .filter(|one| matches!(one, Reported::OfGroup(_)))
+        .count()
+}
+
+fn set_count(all: &[Reported<'_>]) -> usize
+    ensures { result ≡ count_by lines.is_set all.now }
+{
+    all.iter()
+        .filter(|one| matches!(one, Reported::OfSet(_, _)))
+        .count()
+}
+
 fn accepted_count(all: &[Reported<'_>]) -> usize
     ensures { result ≡ count_by lines.is_accepted_set all.now }
 {
-    let mut count = 0;
-    for one in all {
-        if is_accepted_set(one) {
-            count += 1;
-        }
-    }
-    count
+    all.iter().filter(|one| is_accepted_set(one)).count()
+}
+
+/// Appends `sentence` to `out` with two numbers for its two `_`.
+fn append_numbers(
+    out: &mut Vec<u8>,
+    sentence: &str,
+    first: usize,
+    second: usize,
+) -> Result<(), NoMemory>
+    ensures { OnOk result (out.new.items ≡ out.old.items ++ filled sentence.now (decimal first ∷ decimal second ∷ [])) }
+{
+    let mut digits = (Buffer::new(), Buffer::new());
+    let first = digits.0.format(first as u64).as_bytes();
+    append_two(
+        out,
+        sentence,
+        first,
+        digits.1.format(second as u64).as_bytes(),
+    )
+}
+
+/// Appends the line of totals of `all` to `out`.
+fn append_totals(out: &mut Vec<u8>, all: &[Reported<'_>]) -> Result<(), NoMemory>
+    ensures { OnOk result (out.new.items ≡ out.old.items ++ lines.total_line all.now) }
+{
+    append_numbers(out, TOTALS, ta1_count(all), group_count(all))?;
+    append_numbers(out, TOTAL_SETS, set_count(all), accepted_count(all))
 }
 
 /// Writes what the notes on a set say.

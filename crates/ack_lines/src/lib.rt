@@ -1,13 +1,13 @@
 //! The lines that say in words what acknowledgments report: of each interchange that is answered, of each group and set that isn't
 //! accepted, with each fault by its segment, its element and its code, and their names if a names file has them; and a last line of totals.
 //!
-//! The words of the codes are here too: what is wrong with a segment, an element, a set or a group, the verdicts on sets and groups, and
-//! the note on an interchange. They are those of docs/ACKNOWLEDGMENT.md.
+//! The sentences are constants (`sentences`), and so are the words of the codes (`words`): what is wrong with a segment, an element, a set
+//! or a group, the verdicts on sets and groups, and the note on an interchange. They are those of docs/ACKNOWLEDGMENT.md, and no clause
+//! says what they are.
 //!
 //! Proved:
-//! - `words_of` gives the words of the code that a text writes, and other words where it writes none;
-//! - each code is in the list of its codes, as the first with its text;
-//! - a note that the hub gives on an interchange is one of the notes that have words, and its code one of the verdicts;
+//! - `words_of` gives the words that a table has for a code's text, and other words where it has none;
+//! - each code that the hub writes has words, and so have its notes on interchanges;
 //! - `explanation` and `named_explanation` are just these lines, of what is reported in its order, but a group that is rejected before its
 //!   sets, byte for byte; texts of the acknowledgment and names are shown without bytes that don't print, and cut to 99 bytes; all that
 //!   they report is in the lines, each once;
@@ -19,19 +19,15 @@
 //! Tests: `trial_explain`.
 #![tactic(auto)]
 
-mod elements;
 mod explain;
-mod groups;
 mod heads;
-mod interchanges;
 mod laws;
 mod lines;
 mod notes;
 mod reported;
-mod segments;
-mod sets;
+mod sentences;
 mod shown;
-mod worded;
+mod words;
 
 pub use explain::{explanation, fault_lines, named_explanation};
-pub use laws::notes_have_words;
+pub use laws::{codes_have_words, notes_have_words};

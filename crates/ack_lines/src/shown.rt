@@ -1,9 +1,7 @@
-ghost use Rattle.std.specs.Prelude.{◌≡◌, ◌++◌, OnOk, codes, decimal, [], map, take};
-ghost use Rattle.ack_lines.specs.Lines as lines;
+ghost use Rattle.std.specs.Prelude.{◌≡◌, ◌++◌, ◌∷◌, [], OnOk, map, option_map, take};
 ghost use Rattle.ack_lines.specs.Shown as shown;
 
 use hub_kinds::NoMemory;
-use itoa::Buffer;
 
 /// How many bytes of a text are shown.
 const SHOWN_BYTES: usize = 99;
@@ -19,7 +17,7 @@ fn shown_byte(byte: u8) -> u8
     }
 }
 
-/// Writes these bytes as they are shown.
+/// Appends `bytes` to `out`, each as it is shown.
 fn append_bytes(out: &mut Vec<u8>, bytes: &[u8]) -> Result<(), NoMemory>
     ensures { OnOk result (out.new.items ≡ out.old.items ++ map shown.shown_byte bytes.now) }
 {
@@ -37,60 +35,95 @@ fn front_of(text: &[u8]) -> &[u8]
     &text[..SHOWN_BYTES.min(text.len())]
 }
 
-/// Writes a text as it is shown: not more of it than a copy has, and no byte that doesn't print.
-pub(crate) fn append_shown(out: &mut Vec<u8>, text: &[u8]) -> Result<(), NoMemory>
+/// Appends `text` to `out` as it is shown: not more of it than a copy has, and no byte that doesn't print.
+fn append_shown(out: &mut Vec<u8>, text: &[u8]) -> Result<(), NoMemory>
     ensures { OnOk result (out.new.items ≡ out.old.items ++ shown.shown text.now) }
 {
     append_bytes(out, front_of(text))
 }
 
-/// Writes a text between two others, where it isn't empty.
-pub(crate) fn append_if(
-    out: &mut Vec<u8>,
-    before: &str,
-    text: &[u8],
-    after: &str,
-) -> Result<(), NoMemory>
-    ensures { OnOk result (out.new.items ≡ out.old.items ++ shown.shown_if before.now text.now after.now) }
+/// Appends `sentence` to `out`, with the next of `values` for each `_`, as it is shown.
+#[tactic(auto, unfolding(crate::specs::Shown::filled))]
+fn append_filled(out: &mut Vec<u8>, sentence: &str, values: &[&[u8]]) -> Result<(), NoMemory>
+    ensures { OnOk result (out.new.items ≡ out.old.items ++ shown.filled sentence.now (map (λ v. v.now) values.now)) }
 {
-    if text.is_empty() {
-        return Ok(());
+    let mut left = sentence.as_bytes();
+    let mut more = values;
+    while let [byte, rest @ ..] = left {
+        match more {
+            [value, others @ ..] if *byte == b'_' => {
+                append_shown(out, value)?;
+                more = others;
+            }
+            _ => out.push(*byte)?,
+        }
+        left = rest;
     }
-    append_text(out, before)?;
-    append_shown(out, text)?;
-    append_text(out, after)
+    Ok(())
 }
 
-/// Writes words of our own.
+/// Appends `sentence` to `out` with `value` for its `_`.
+pub(crate) fn append_one(out: &mut Vec<u8>, sentence: &str, value: &[u8]) -> Result<(), NoMemory>
+    ensures { OnOk result (out.new.items ≡ out.old.items ++ shown.filled sentence.now (value.now ∷ [])) }
+{
+    append_filled(out, sentence, &[value])
+}
+
+/// Appends `sentence` to `out` with `first` and `second` for its two `_`.
+pub(crate) fn append_two<'v>(
+    out: &mut Vec<u8>,
+    sentence: &str,
+    first: &'v [u8],
+    second: &'v [u8],
+) -> Result<(), NoMemory>
+    ensures { OnOk result (out.new.items ≡ out.old.items ++ shown.filled sentence.now (first.now ∷ second.now ∷ [])) }
+{
+    append_filled(out, sentence, &[first, second])
+}
+
+/// Appends `sentence` to `out` with `first`, `second` and `third` for its three `_`.
+pub(crate) fn append_three<'v>(
+    out: &mut Vec<u8>,
+    sentence: &str,
+    first: &'v [u8],
+    second: &'v [u8],
+    third: &'v [u8],
+) -> Result<(), NoMemory>
+    ensures { OnOk result (out.new.items ≡ out.old.items
+        ++ shown.filled sentence.now (first.now ∷ second.now ∷ third.now ∷ [])) }
+{
+    append_filled(out, sentence, &[first, second, third])
+}
+
+/// Appends `sentence` with `value` for its `_` to `out`, if `value` isn't empty.
+pub(crate) fn append_if(out: &mut Vec<u8>, sentence: &str, value: &[u8]) -> Result<(), NoMemory>
+    ensures { OnOk result (out.new.items ≡ out.old.items ++ shown.filled_if sentence.now value.now) }
+{
+    if value.is_empty() {
+        return Ok(());
+    }
+    append_one(out, sentence, value)
+}
+
+/// Appends `sentence` with `name` for its `_` to `out`, if there is a name.
+pub(crate) fn append_name(
+    out: &mut Vec<u8>,
+    sentence: &str,
+    name: Option<&[u8]>,
+) -> Result<(), NoMemory>
+    ensures { OnOk result (out.new.items ≡ out.old.items
+        ++ shown.name_said sentence.now (option_map (λ t. t.now) name.entry)) }
+{
+    match name {
+        None => Ok(()),
+        Some(name) => append_if(out, sentence, name),
+    }
+}
+
+/// Appends `text` to `out` as it is.
 pub(crate) fn append_text(out: &mut Vec<u8>, text: &str) -> Result<(), NoMemory>
     ensures { OnOk result (out.new.items ≡ out.old.items ++ text.now) }
 {
     out.extend_from_slice(text.as_bytes())?;
     Ok(())
-}
-
-/// Writes a number.
-pub(crate) fn append_number(out: &mut Vec<u8>, number: u64) -> Result<(), NoMemory>
-    ensures { OnOk result (out.new.items ≡ out.old.items ++ decimal number) }
-{
-    let mut digits = Buffer::new();
-    append_text(out, digits.format(number))
-}
-
-/// Writes words, and after them the element that has the code, and the code.
-#[tactic(auto, unfolding(crate::specs::Lines::coded))]
-pub(crate) fn append_coded(
-    out: &mut Vec<u8>,
-    words: &str,
-    element: &str,
-    code: &[u8],
-) -> Result<(), NoMemory>
-    ensures { OnOk result (out.new.items ≡ out.old.items ++ lines.coded words.now element.now code.now) }
-{
-    append_text(out, words)?;
-    append_text(out, " (")?;
-    append_text(out, element)?;
-    append_text(out, " ")?;
-    append_shown(out, code)?;
-    append_text(out, ")")
 }

@@ -13,7 +13,7 @@ use Rattle.toml_keys.specs.Answers.{Gives}
 use Rattle.toml_keys.specs.Refusals.{Refusal}
 use Rattle.toml_keys.specs.declared.file_fault.FileFault.{FileFault}
 use Rattle.toml_keys.specs.declared.file_fault.FileFault.TheVariants as file
-use Rattle.refusal_words.specs.NodesSaid.{nodes_said}
+use Rattle.setup_errors.specs.NodesSaid.{node_faults}
 use Rattle.check_command.specs.Files.{listed}
 use Rattle.check_command.specs.Further.{AreNodesSaid, AreSaid, AreSaidOfGuides, IsFileFurther, IsGuideFurther, IsSaidOfCounters}
 use Rattle.check_command.specs.Further.{IsSaidOfFile, IsSaidOfGuide, IsSaidOfSetup, IsSomeSaid, Sentences}
@@ -36,7 +36,7 @@ guide_behind from bytes f said is table toml memory behind =
 
 pub nodes_are : (bytes : List ℕ) (rows : GuideRows) (said : Sentences) → SaysOf bytes (λ t. guide_of_table t ≡ Ok (guide_of rows))
     → SaysNone GuideRows GuideFileFault bytes fault.NotToml fault.NoMemory (Ok rows)
-    → said ≡ nodes_said (numbered 1 (nodes_view rows.nodes.items)) → AreNodesSaid bytes said
+    → length said ≡ length (node_faults (numbered 1 (nodes_view rows.nodes.items))) → AreNodesSaid bytes said
 nodes_are bytes rows said table toml is = (
   guide_of rows,
   has_table bytes (λ t. guide_of_table t ≡ Ok (guide_of rows)) fault.NotToml fault.NoMemory (Ok rows) (one_or_none bytes) (λ e. cc)

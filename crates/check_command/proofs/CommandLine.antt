@@ -5,8 +5,8 @@ use Rattle.std.specs.Borrow.{Bor}
 use Rattle.clap.specs.Words.{HasMatchesOf, Text, first_value, found_of, is_simple, is_simple_and_free}
 use Rattle.clap.specs.declared.parser.matches.ArgMatches.{ArgMatches}
 use Rattle.clap.proofs.OnLiterals.{clap_on_literals}
-use Rattle.night_ends.specs.Words.{or_none, values_found}
-use Rattle.night_ends.proofs.ForAbove.{all_found, found}
+use Rattle.system_io.specs.Words.{or_none, values_found}
+use Rattle.system_io.proofs.ForAbove.{all_found, found}
 use Rattle.program_frame.specs.Arguments.{value_in, values_in}
 use Rattle.program_frame.specs.Matching.{AsksForText}
 use Rattle.check_command.specs.CommandLine.{AreNone, AreOptions, IsAsked, IsGiven, check_app, is_all, names_none}

@@ -12,7 +12,7 @@ use Rattle.guide_toml.specs.Answers.{Answers}
 use Rattle.guide_toml.specs.Guides.{guide_of_table}
 use Rattle.guide_toml.specs.declared.fault.GuideFileFault.{GuideFileFault}
 use Rattle.guide_toml.specs.declared.fault.GuideFileFault.TheVariants as fault
-use Rattle.refusal_words.specs.GuideWords.{IsGuideSaid}
+use Rattle.setup_errors.specs.GuideWords.{IsGuideSaid}
 use Rattle.toml_keys.specs.Answers.{Gives}
 use Rattle.toml_keys.specs.Refusals.{Refusal}
 use Rattle.toml_keys.specs.declared.file_fault.FileFault.{FileFault}

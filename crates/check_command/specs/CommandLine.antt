@@ -3,7 +3,7 @@ use Rattle.std.specs.Prelude.{◌≡◌, ◌&&◌, ◌==◌, Bool, List, [], len
 use Rattle.std.specs.Prelude.{option_map}
 use Rattle.std.specs.Str.{bytes_eq}
 use Rattle.clap.specs.Words.{App, Text, takes, with_rule}
-use Rattle.night_ends.specs.Words.{or_none}
+use Rattle.system_io.specs.Words.{or_none}
 use Rattle.program_frame.specs.Arguments.{option_flag, option_free, option_repeated, program, value_in, values_in}
 use Rattle.program_frame.specs.Matching.{AsksForText}
 use Rattle.check_command.specs.declared.command.Asked.{Asked}

@@ -1,5 +1,5 @@
 -- The check (own): what is said of a file where all is asked for: what is wrong with each of its tables, rows and nodes by itself.
-use Rattle.std.specs.Prelude.{◌≡◌, ◌⊎◌, ⊤, ℕ, List, [], ◌∷◌, Option, None, Some, Result, Ok}
+use Rattle.std.specs.Prelude.{◌≡◌, ◌⊎◌, ⊤, ℕ, List, [], ◌∷◌, length, Option, None, Some, Result, Ok}
 use Rattle.toml.specs.Data.{Members}
 use Rattle.guide_tree.specs.declared.rows.GuideRows.{GuideRows}
 use Rattle.guide_tree.specs.Words.{GuideTree, numbered}
@@ -11,9 +11,9 @@ use Rattle.toml_keys.specs.declared.file_fault.FileFault.{FileFault}
 use Rattle.toml_keys.specs.declared.file_fault.FileFault.TheVariants as file
 use Rattle.partner_setup.specs.CountersFile.{counters_of_table}
 use Rattle.partner_setup.specs.SetupFile.{setup_of_table}
-use Rattle.key_words.specs.KeysSaid.{counters_keys_said, guide_keys_said, setup_keys_said}
-use Rattle.refusal_words.specs.NodesSaid.{nodes_said}
-use Rattle.refusal_words.specs.RowsSaid.{counters_said, setup_said}
+use Rattle.key_errors.specs.KeysSaid.{counters_keys_said, guide_keys_said, setup_keys_said}
+use Rattle.setup_errors.specs.NodesSaid.{node_faults}
+use Rattle.setup_errors.specs.RowsSaid.{counters_said, setup_said}
 use Rattle.check_command.specs.Files.{in_order}
 use Rattle.guide_toml.specs.FileBytes.{HasTable, IsFaultOf, IsFileOf, IsGuideFaultOf, IsGuideOf}
 use Rattle.check_command.specs.declared.files.Given.{Given}
@@ -22,10 +22,10 @@ use Rattle.check_command.specs.declared.files.GivenFiles.{GivenFiles}
 abbrev pub Sentences : Type 0
 Sentences = List (List ℕ)
 
--- of the nodes of a guide that bytes write
+-- a text for each fault of the nodes of a guide that bytes write
 abbrev pub AreNodesSaid : (bytes : List ℕ) → Sentences → Type 0
 AreNodesSaid bytes said =
-    (guide : GuideTree) × HasTable bytes (λ t. guide_of_table t ≡ Ok guide) × (said ≡ nodes_said (numbered 1 guide.nodes))
+    (guide : GuideTree) × HasTable bytes (λ t. guide_of_table t ≡ Ok guide) × (length said ≡ length (node_faults (numbered 1 guide.nodes)))
 
 -- after such a refusal of a guide file: of its keys, or of its nodes
 abbrev pub IsGuideFurther : (bytes : List ℕ) → GuideFileFault → Sentences → Type 0

@@ -6,10 +6,10 @@ use Rattle.partner_setup.specs.declared.rows.CounterRow.{CounterRow}
 use Rattle.partner_setup.specs.declared.rows.SetupRows.{SetupRows}
 use Rattle.partner_setup.specs.declared.setup_fault.SetupFault.{SetupFault}
 use Rattle.partner_setup.specs.declared.setup_fault.SetupFault.TheVariants as refused
-use Rattle.refusal_words.specs.KeptRows.{kept_rows}
-use Rattle.refusal_words.specs.SetupWarnings.{setup_warnings}
-use Rattle.refusal_words.specs.SetupWords.{setup_words}
-use Rattle.refusal_words.specs.declared.kept_rows.KeptRows.{KeptRows}
+use Rattle.setup_errors.specs.KeptRows.{kept_rows}
+use Rattle.setup_errors.specs.SetupWarnings.{setup_warnings}
+use Rattle.setup_errors.specs.SetupWords.{setup_words}
+use Rattle.setup_errors.specs.declared.kept_rows.KeptRows.{KeptRows}
 use Rattle.check_command.specs.declared.told.Listed.TheVariants as listed
 use Rattle.check_command.specs.declared.told.Told.{Told}
 use Rattle.check_command.specs.declared.told.Told.TheVariants as told

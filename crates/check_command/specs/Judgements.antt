@@ -7,7 +7,7 @@ use Rattle.partner_setup.specs.SetupFile.{setup_of_table}
 use Rattle.partner_setup.specs.declared.rows.CounterRow.{CounterRow}
 use Rattle.partner_setup.specs.declared.rows.SetupRows.{SetupRows}
 use Rattle.toml_keys.specs.Refusals.{Refusal}
-use Rattle.key_words.specs.KeySentences.{counters_key_words, setup_key_words}
+use Rattle.key_errors.specs.KeyWords.{counters_key_words, setup_key_words}
 use Rattle.check_command.specs.Files.{path_of}
 use Rattle.check_command.specs.Judged.{counters_told, setup_told}
 use Rattle.guide_toml.specs.FileBytes.{IsFileOf, IsGuideOf}

@@ -13,9 +13,9 @@ use Rattle.toml_keys.specs.declared.file_fault.FileFault.{FileFault}
 use Rattle.toml_keys.specs.declared.file_fault.FileFault.TheVariants as file
 use Rattle.partner_setup.specs.CountersFile.{counters_of_table}
 use Rattle.partner_setup.specs.declared.rows.CounterRow.{CounterRow}
-use Rattle.key_words.specs.KeySentences.{counters_key_words, guide_key_words}
-use Rattle.key_words.specs.NoTables.{IsNoTableSaid}
-use Rattle.refusal_words.specs.GuideWords.{IsGuideSaid}
+use Rattle.key_errors.specs.KeyWords.{counters_key_words, guide_key_words}
+use Rattle.key_errors.specs.NoTables.{IsNoTableSaid}
+use Rattle.setup_errors.specs.GuideWords.{IsGuideSaid}
 use Rattle.check_command.specs.declared.files.Given.{Given}
 
 abbrev pub unreadable : List ℕ

@@ -1,5 +1,5 @@
 -- The check (own): what is reported of each file that is given.
-use Rattle.std.specs.Prelude.{◌≡◌, ◌⊎◌, ⊤, ℕ, List, [], ◌∷◌, length, map, Option, None, Some}
+use Rattle.std.specs.Prelude.{◌≡◌, ◌⊎◌, ⊤, ℕ, List, [], ◌∷◌, length, Option, None, Some}
 use Rattle.guide_tree.specs.Words.{guide_of, node_count}
 use Rattle.guide_tree.specs.declared.rows.GuideRows.{GuideRows}
 use Rattle.partner_setup.specs.CountersFile.{counters_of_table}
@@ -7,8 +7,7 @@ use Rattle.partner_setup.specs.SetupFile.{setup_of_table}
 use Rattle.partner_setup.specs.declared.rows.CounterRow.{CounterRow}
 use Rattle.partner_setup.specs.declared.rows.SetupRows.{SetupRows}
 use Rattle.guide_warnings.specs.Warnings.{warnings_of}
-use Rattle.refusal_words.specs.WarningWords.{warning_words}
-use Rattle.key_words.specs.KeySentences.{counters_key_words, setup_key_words}
+use Rattle.key_errors.specs.KeyWords.{counters_key_words, setup_key_words}
 use Rattle.check_command.specs.Files.{in_order, path_of}
 use Rattle.check_command.specs.Judged.{counters_told, setup_told}
 use Rattle.guide_toml.specs.FileBytes.{IsFileOf, IsGuideOf}
@@ -22,11 +21,11 @@ use Rattle.check_command.specs.declared.told.Listed.TheVariants as listed
 use Rattle.check_command.specs.declared.told.Told.{Told}
 use Rattle.check_command.specs.declared.told.Told.TheVariants as told
 
--- a guide file: taken, with how many nodes the guide has and its warnings, or refused
+-- a guide file: taken, with how many nodes the guide has and a text for each of its warnings, or refused
 abbrev pub IsGuideTold : Option (List ℕ) → Told → Type 0
 IsGuideTold bytes (told.Taken count what warnings) =
     (guide : GuideRows) × IsGuideOf bytes guide × (count ≡ node_count (guide_of guide).nodes) × (what ≡ listed.Slots)
-    × (warnings ≡ map warning_words (warnings_of (guide_of guide)))
+    × (length warnings ≡ length (warnings_of (guide_of guide)))
 IsGuideTold bytes told.Open = ⊥
 IsGuideTold bytes (told.Refused text) = IsGuideRefused bytes text
 

@@ -7,7 +7,7 @@ use crate::lines::{append_line, append_lines, are_taken};
 use crate::told::{FileTold, Told};
 use file_names::append_shown;
 use hub_kinds::{NoMemory, Text, Texts};
-use refusal_words::append;
+use setup_errors::append;
 use std::alloc::Global;
 
 fn append_said(out: &mut Vec<u8>, path: &[u8], text: &[u8]) -> Result<(), NoMemory>

@@ -4,11 +4,11 @@ ghost use Rattle.check_command.specs.Files as files;
 
 use crate::command::Options;
 use hub_kinds::{Items, NoMemory, Text};
-use night_ends::{Opened, open_at, read_whole};
 use std::alloc::Global;
 use std::io;
 use std::io::Read;
 use std::rt::Files;
+use system_io::{Opened, open_at, read_whole};
 
 /// A file that was given.
 #[derive(Debug, Drop)]

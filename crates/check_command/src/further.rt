@@ -1,22 +1,20 @@
 //! What is wrong with each table, row and node of a file by itself.
 ghost use Rattle.std.specs.Prelude.{◌≡◌, ◌≢◌, ◌++◌, [], IfOk, IfSome, OnOk, is_some};
-ghost use Rattle.guide_tree.specs.Words.{nodes_view, numbered};
-ghost use Rattle.key_words.specs.KeysSaid.{counters_keys_said, guide_keys_said, setup_keys_said};
+ghost use Rattle.key_errors.specs.KeysSaid.{counters_keys_said, guide_keys_said, setup_keys_said};
 ghost use Rattle.check_command.specs.Files.{listed};
 ghost use Rattle.check_command.specs.Further as further;
 ghost use Rattle.guide_toml.specs.FileBytes.{HasTable};
-ghost use Rattle.refusal_words.specs.NodesSaid.{nodes_said};
-ghost use Rattle.refusal_words.specs.RowsSaid.{counters_said, setup_said};
+ghost use Rattle.setup_errors.specs.RowsSaid.{counters_said, setup_said};
 ghost use Rattle.toml.specs.View.{table_view};
 
 use crate::files::{Given, GivenFiles};
 use crate::judged::table_of;
 use guide_toml::{GuideFileFault, read_guide, read_rows};
-use guide_tree::{Guide, GuideFault, Node};
+use guide_tree::{Guide, GuideFault};
 use hub_kinds::{Items, NoMemory, Text, Texts};
-use key_words::{push_counters_keys_said, push_guide_keys_said, push_setup_keys_said};
+use key_errors::{push_counters_keys_said, push_guide_keys_said, push_setup_keys_said};
 use partner_setup::{CounterRows, FileFault, SetupRows, read_counters, read_setup};
-use refusal_words::{push_counters_said, push_nodes_said, push_setup_said};
+use setup_errors::{node_texts, push_counters_said, push_setup_said};
 use std::alloc::Global;
 use toml::Table;
 
@@ -33,20 +31,12 @@ fn nothing_of(alloc: Global, _guide: &Guide) -> Texts
     nothing(alloc)
 }
 
-fn said_of_nodes(alloc: Global, nodes: &[Node]) -> Result<Texts, NoMemory>
-    ensures { IfOk result (λ said. said ≡ nodes_said (numbered 1 (nodes_view nodes.now))) }
-{
-    let mut found = Vec::new(alloc);
-    push_nodes_said(alloc, &mut found, nodes)?;
-    Ok(Items::from_vec(found))
-}
-
 /// The texts about the nodes of a guide that `bytes` write, which are known to write one.
 fn nodes_of(alloc: Global, bytes: &[u8]) -> Result<Texts, NoMemory>
     ensures { IfOk result (further.AreNodesSaid bytes.now) }
 {
     match read_rows(alloc, bytes) {
-        Ok(rows) => said_of_nodes(alloc, &rows.nodes),
+        Ok(rows) => node_texts(alloc, &rows.nodes),
         Err(_) => Err(NoMemory),
     }
 }

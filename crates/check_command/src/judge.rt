@@ -6,7 +6,7 @@ ghost use Rattle.check_command.specs.Judgements.{AreCountedAlone, AreCountedBesi
 ghost use Rattle.check_command.specs.Judgements.{IsGuideFound, IsToldBeside, with_guide, with_told};
 ghost use Rattle.check_command.specs.Tellings as tellings;
 ghost use Rattle.check_command.specs.declared.told.Told.TheVariants as variants;
-ghost use Rattle.refusal_words.specs.SetupWords.{setup_words};
+ghost use Rattle.setup_errors.specs.SetupWords.{setup_words};
 
 use crate::files::{Given, GivenFiles};
 use crate::judged::{Judged, judge_counters, judge_guide, judge_rows};
@@ -15,7 +15,7 @@ use crate::warned::{no_warnings, warning_texts};
 use guide_tree::{Guide, Node};
 use hub_kinds::{Items, NoMemory, Text};
 use partner_setup::{CounterRows, Setup, SetupFault, SetupRows};
-use refusal_words::{KeptRows, append_setup_words, setup_warning_texts};
+use setup_errors::{KeptRows, append_setup_words, setup_warning_texts};
 use std::alloc::Global;
 
 /// What is reported of a setup, and of the counters that it is judged by.
@@ -61,7 +61,7 @@ fn refusal_text(alloc: Global, kept: &KeptRows, fault: &SetupFault) -> Result<Te
     ensures { IfOk result (λ text. text ≡ setup_words kept.now fault.now) }
 {
     let mut text = Vec::new(alloc);
-    append_setup_words(&mut text, kept, fault)?;
+    append_setup_words(alloc, &mut text, kept, fault)?;
     Ok(Items::from_vec(text))
 }
 

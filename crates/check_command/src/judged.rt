@@ -2,21 +2,21 @@ ghost use Rattle.std.specs.Prelude.{◌≡◌, ◌≢◌, IfOk, Some};
 ghost use Rattle.toml.specs.View.{table_view};
 ghost use Rattle.partner_setup.specs.CountersFile.{counters_of_table};
 ghost use Rattle.partner_setup.specs.SetupFile.{setup_of_table};
-ghost use Rattle.key_words.specs.KeySentences.{counters_key_words, guide_key_words, setup_key_words};
+ghost use Rattle.key_errors.specs.KeyWords.{counters_key_words, guide_key_words, setup_key_words};
 ghost use Rattle.check_command.specs.Judgements.{IsFileJudged, IsGuideJudged};
 ghost use Rattle.check_command.specs.SetupFiles as files;
 ghost use Rattle.guide_toml.specs.FileBytes.{HasTable, table_of};
 ghost use Rattle.guide_tree.specs.Words.{nodes_view, numbered};
-ghost use Rattle.refusal_words.specs.GuideWords.{IsGuideSaid};
+ghost use Rattle.setup_errors.specs.GuideWords.{IsGuideSaid};
 
 use guide_toml::{GuideFileFault, read_guide, read_rows};
 use guide_tree::{Guide, GuideFault, Node};
 use hub_kinds::{Items, NoMemory, Text};
-use key_words::{
+use key_errors::{
     append_counters_key_words, append_guide_key_words, append_setup_key_words, no_table_text,
 };
 use partner_setup::{CounterRows, FileFault, SetupRows, read_counters, read_setup};
-use refusal_words::append_guide_words;
+use setup_errors::append_guide_words;
 use std::alloc::Global;
 use toml::Table;
 
@@ -77,7 +77,7 @@ fn guide_key_text(alloc: Global, top: &Table, fault: &GuideFileFault) -> Result<
 }
 
 /// What is wrong with a key of a guide file.
-fn key_words(alloc: Global, bytes: &[u8], fault: &GuideFileFault) -> Result<Text, NoMemory>
+fn key_errors(alloc: Global, bytes: &[u8], fault: &GuideFileFault) -> Result<Text, NoMemory>
     ensures { IfOk result (λ text. HasTable bytes.now (λ t. text ≡ guide_key_words t fault.now)) }
 {
     let top = table_of(alloc, bytes)?;
@@ -93,7 +93,7 @@ fn refusal_of(alloc: Global, bytes: &[u8], fault: &GuideFileFault) -> Result<Tex
         GuideFileFault::NoMemory | GuideFileFault::Guide(GuideFault::NoMemory) => Err(NoMemory),
         GuideFileFault::NotToml => no_table_text(alloc, bytes),
         GuideFileFault::Guide(own) => guide_words(alloc, bytes, own),
-        _ => key_words(alloc, bytes, fault),
+        _ => key_errors(alloc, bytes, fault),
     }
 }
 

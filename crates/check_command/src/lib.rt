@@ -25,7 +25,7 @@
 //!
 //! Source: own.
 //!
-//! Tests: `trial_check`.
+//! Tests: `trial_explain`.
 #![tactic(auto)]
 
 mod all_lines;

@@ -5,7 +5,7 @@ ghost use Rattle.check_command.specs.Lines as lines;
 use crate::told::{FileTold, Listed, Told};
 use file_names::append_shown;
 use hub_kinds::{NoMemory, Text};
-use refusal_words::{append, append_number};
+use setup_errors::{append, append_number};
 use std::alloc::Global;
 
 fn noun_of(what: Listed) -> &'static [u8]

@@ -1,4 +1,5 @@
-//! Comma-separated values (RFC 4180): a record's fields, each written after what is there.
+//! Comma-separated values (RFC 4180): a record's fields, each written after what is there; and where the columns of the table of a night's
+//! sets are (`columns`).
 //!
 //! Proved:
 //! - `append_field` and `append_fields` write a field as it is, or in quotes exactly where a byte of it isn't TEXTDATA, with each quote
@@ -12,6 +13,7 @@
 //! Tests: `trial_track`.
 #![tactic(auto)]
 
+pub mod columns;
 mod fields;
 
 pub use fields::{append_end, append_field, append_fields};

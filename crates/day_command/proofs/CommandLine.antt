@@ -6,7 +6,7 @@ use Rattle.clap.specs.declared.parser.matches.ArgMatches.{ArgMatches}
 use Rattle.clap.proofs.OnLiterals.{clap_on_literals}
 use Rattle.std.specs.Borrow.{Bor}
 use Rattle.std.specs.declared.alloc.Global.{Global}
-use Rattle.night_ends.proofs.ForAbove.{found}
+use Rattle.system_io.proofs.ForAbove.{found}
 use Rattle.program_frame.specs.Matching.{AsksForText}
 use Rattle.sets_again.specs.declared.wanted.Wanted.{Wanted}
 use Rattle.track_read.specs.declared.export.Form.{Form}

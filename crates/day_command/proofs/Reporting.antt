@@ -2,7 +2,7 @@
 use Rattle.std.proofs.Common.{◌≡◌, ◌∙◌, ℕ, List, ap, codes, subst}
 use Rattle.std.specs.List.{AllZip, filter_map}
 use Rattle.hub_ledger.specs.declared.entry.NightEntry.{NightEntry}
-use Rattle.night_ends.specs.Outbox.{path_in}
+use Rattle.system_io.specs.Outbox.{path_in}
 use Rattle.night_folder.specs.Files.{FileValue}
 use Rattle.night_folder.specs.Nights.{IsRead, bad_in, entry_in}
 use Rattle.night_folder.specs.declared.night.NightRead.{NightRead}

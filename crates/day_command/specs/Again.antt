@@ -1,6 +1,6 @@
 -- The sets of a night that go in again (own): the files of the night, and what is printed of them on both outputs.
 use Rattle.std.specs.Prelude.{◌≡◌, ◌↔◌, ℕ, true, false, Bool, List, [], ◌∷◌, ◌++◌, Some, codes}
-use Rattle.night_ends.specs.Outbox.{path_in}
+use Rattle.system_io.specs.Outbox.{path_in}
 use Rattle.night_folder.specs.Files.{FileValue}
 use Rattle.sets_again.specs.Again.{IsAgain}
 use Rattle.sets_again.specs.Rows.{Row}

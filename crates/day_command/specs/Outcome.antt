@@ -3,7 +3,7 @@ use Rattle.std.specs.Prelude.{ℕ, ◌≡◌, ◌↔◌, ◌⊎◌, ◌++◌, tr
 use Rattle.std.specs.List.{AllZip, filter_map}
 use Rattle.std.specs.Io.KnownBytes.{Appends}
 use Rattle.clap.specs.Words.{Text}
-use Rattle.night_ends.specs.Outbox.{path_in}
+use Rattle.system_io.specs.Outbox.{path_in}
 use Rattle.hub_ledger.specs.declared.entry.NightEntry.{NightEntry}
 use Rattle.night_breaches.specs.Breaches.{last_name}
 use Rattle.night_folder.specs.Files.{FileValue, first_line}

@@ -8,7 +8,7 @@ use Rattle.ack_read.specs.declared.fault.ReadFault.TheVariants as fault
 use Rattle.ack_read.specs.declared.told.Told.{Told}
 use Rattle.hub_kinds.specs.declared.limits.TheConstants.{LONGEST_TEXT}
 use Rattle.inner_headers.specs.Inner.{AreInnerLines}
-use Rattle.night_ends.specs.Outbox.{path_in}
+use Rattle.system_io.specs.Outbox.{path_in}
 use Rattle.night_folder.specs.Files.{FileValue, FolderValue, bytes_or_none, first_line}
 use Rattle.night_page.specs.Page.{IsPage, PageValue, has_todo}
 use Rattle.night_page.specs.Rows.{Row}
@@ -44,7 +44,7 @@ abbrev pub AreLinesIn : Option (List ℕ) → (lines : List ℕ) → Type 0
 AreLinesIn None lines = lines ≡ unread_lines
 AreLinesIn (Some text) lines = AreLinesRead text lines
 
--- what a partner is told by its file in the folder of the night
+-- what a partner's file in the folder of the night reports
 pub record IsToldAt (night partner : List ℕ) (told : PartnerTold) : Type 0 where
   pub file : FileValue
   pub path_is : file.path ≡ path_in night (ack_name partner)

@@ -2,7 +2,7 @@
 use Rattle.std.specs.Prelude.{◌≡◌, ℕ, List, Option, Some, None, codes}
 use Rattle.hex.specs.Hex.{encode_lower}
 use Rattle.sha2.specs.Sha256.{sha256}
-use Rattle.night_ends.specs.Outbox.{path_in}
+use Rattle.system_io.specs.Outbox.{path_in}
 use Rattle.night_folder.specs.Files.{FileValue}
 use Rattle.night_page.specs.declared.record.RecordShown.{RecordShown}
 use Rattle.night_record.specs.Record.{IsRecordOf}

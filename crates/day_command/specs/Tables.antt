@@ -1,7 +1,7 @@
 -- The tables of the nights of a folder (own), in the nights' order: what was read of each.
 use Rattle.std.specs.Prelude.{◌≡◌, ℕ, List, [], ◌++◌, codes, length}
 use Rattle.std.specs.List.{AllZip}
-use Rattle.night_ends.specs.Outbox.{path_in}
+use Rattle.system_io.specs.Outbox.{path_in}
 use Rattle.night_folder.specs.Files.{FileValue}
 use Rattle.night_marks.specs.Count.{unarchived}
 use Rattle.night_marks.specs.Order.{in_order}

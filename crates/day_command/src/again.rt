@@ -41,7 +41,7 @@ fn text_at<R: Files + AllocGlobal>(rt: &R, night: &[u8], wanted: Wanted) -> Resu
     Ok(sets_again(rt.alloc(), text, rows.as_slice(), wanted)?)
 }
 
-/// The line if there is no such set.
+/// The line that is printed if no set goes in again.
 fn none_line(wanted: Wanted) -> &'static [u8]
     ensures { result.now ≡ again.none_line wanted }
 {

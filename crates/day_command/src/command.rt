@@ -6,11 +6,11 @@ ghost use Rattle.day_command.specs.CommandLine as line;
 use clap::{Arg, ArgAction, ArgMatches, Command};
 use file_names::is_not_utf_8;
 use hub_kinds::copy_text;
-use night_ends::with_argument;
 use program_frame::{Matched, Mistake, match_words, option_flag, program, word};
 use sets_again::Wanted;
 use std::alloc::{AllocError, Global};
 use std::convert::AsStr;
+use system_io::with_argument;
 use track_read::Form;
 
 /// The name of the program.

@@ -3,12 +3,12 @@ ghost use Rattle.std.specs.Io.KnownBytes.{Appends};
 ghost use Rattle.day_command.specs.Failure.{line_of, status_of};
 
 use hub_kinds::NoMemory;
-use night_ends::print_text;
 use night_review::ReviewFault;
 use program_frame::Reported;
 use sets_again::AgainFault;
 use std::alloc::AllocError;
 use std::io::Write;
+use system_io::print_text;
 
 /// Why a run failed.
 #[derive(Clone, Copy, Debug, PartialEq, Eq)]

@@ -1,6 +1,6 @@
 ghost use Rattle.std.specs.Prelude.{◌≡◌, ◌↔◌, ◌⊎◌, IfErr, IfOk, map, true};
 ghost use Rattle.csv.specs.Records.{fields_of};
-ghost use Rattle.night_ends.specs.Outbox.{path_in};
+ghost use Rattle.system_io.specs.Outbox.{path_in};
 ghost use Rattle.day_command.specs.Failure.{IsBefore};
 ghost use Rattle.day_command.specs.Page.{ArePapersAt, IsPageOf, IsPageReport, total_of};
 ghost use Rattle.night_page.specs.Totals.{gives_totals};

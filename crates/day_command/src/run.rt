@@ -14,7 +14,6 @@ use crate::find::{find_nights, status_of};
 use crate::page::page_of;
 use hub_kinds::NoMemory;
 use hub_ledger::NightEntry;
-use night_ends::print_text;
 use night_folder::{PaperAt, entries_in, first_line, read_nights, read_paper};
 use night_marks::{NightMark, in_order};
 use night_review::{Report, judged, limit, nights_at};
@@ -24,6 +23,7 @@ use sets_again::Wanted;
 use std::convert::AsStr;
 use std::io::Write;
 use std::rt::{Clock, Files};
+use system_io::print_text;
 use track_read::Form;
 
 /// Runs the program on its arguments, without its name, and gives its exit status: 0 or 1 by what the nights are, as `IsRun` says, or

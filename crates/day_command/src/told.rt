@@ -71,7 +71,7 @@ fn file_name(alloc: Global, partner: &[u8]) -> Result<Text, NoMemory>
     Ok(Text::from_vec(name))
 }
 
-/// What `partner` is told by the night in the folder at the path `night`.
+/// What the night in the folder at the path `night` reports to `partner`.
 fn told_at<R: Files + AllocGlobal>(
     rt: &R,
     night: &[u8],
@@ -87,7 +87,7 @@ fn told_at<R: Files + AllocGlobal>(
     })
 }
 
-/// Adds what the partner is told whose acknowledgments the file `name` has.
+/// Adds what the acknowledgments in the file `name` report to their partner.
 fn push_told<R: Files + AllocGlobal>(
     rt: &R,
     told: &mut Vec<PartnerTold>,

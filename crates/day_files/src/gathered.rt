@@ -9,8 +9,8 @@ use crate::file::Content;
 use gather_command::Outcome;
 use gather_files::{GatherFault, Gathered, gather_file};
 use hub_kinds::{Items, NoMemory, Text};
-use night_ends::Reader;
 use std::alloc::Global;
+use system_io::Reader;
 
 /// How many bytes of a file are gathered at a time.
 const WINDOW: usize = 1_048_576;

@@ -14,7 +14,7 @@ use crate::seat::seat_among;
 use crate::triggered::triggered;
 use crate::uses::{add_uses, is_left_out};
 use guide_tree::{Dependency, DependencyKind, Node};
-use hub_kinds::{Fault, NoMemory};
+use hub_kinds::{Faults, NoMemory};
 use loop_match::PlacedSeg;
 use std::alloc::Global;
 use std::cmp::Ordering;
@@ -53,13 +53,13 @@ fn in_target_order<'d>(
 
 /// Adds what is reported of a target that is needed and has no use.
 pub(crate) fn add_left_out<'a>(
-    faults: &mut Vec<Fault<'a>>,
+    faults: &mut Faults<'a>,
     nodes: &'a [Node],
     end: u64,
     placed: &[PlacedSeg],
     dependency: &Dependency,
 ) -> Result<(), NoMemory>
-    ensures { OnOk result (faults.new.items ≡ faults.old.items ++ faults_of_slot (nodes_view nodes.now) end (placed_views placed.now)
+    ensures { OnOk result (faults.new ≡ faults.old ++ faults_of_slot (nodes_view nodes.now) end (placed_views placed.now)
         dependency.now.target dependency.now.kind dependency.now.element) }
 {
     if is_left_out(dependency, placed) {
@@ -72,7 +72,7 @@ pub(crate) fn add_left_out<'a>(
 
 /// Adds what is wrong by a dependency that is triggered.
 fn add_broken<'a>(
-    faults: &mut Vec<Fault<'a>>,
+    faults: &mut Faults<'a>,
     nodes: &'a [Node],
     delims: Delims,
     end: u64,
@@ -80,7 +80,7 @@ fn add_broken<'a>(
     dependency: &Dependency,
 ) -> Result<(), NoMemory>
     requires { AreByLabel placed.now }
-    ensures { OnOk result ((f : Fault) → Contains faults.new.items f ↔ (Contains faults.old.items f
+    ensures { OnOk result ((f : Fault) → Contains faults.new f ↔ (Contains faults.old f
         ⊎ IsBroken (nodes_view nodes.now) delims end (placed_views placed.now) dependency.now f)) }
 {
     let uses = uses_of(dependency.target.as_slice(), placed);
@@ -105,12 +105,12 @@ fn find_broken<'a>(
     end: u64,
     placed: &[PlacedSeg<'_, 'a, 'a>],
     asked: &[&Dependency],
-) -> Result<Vec<Fault<'a>>, NoMemory>
+) -> Result<Faults<'a>, NoMemory>
     requires { AreByLabel placed.now }
-    ensures { IfOk result (λ v. (f : Fault) → Contains v.items f
+    ensures { IfOk result (λ v. (f : Fault) → Contains v f
         ↔ IsBrokenAmong (nodes_view nodes.now) delims end (placed_views placed.now) (lent asked.now) f) }
 {
-    let mut faults = Vec::new(alloc);
+    let mut faults = Faults::new(alloc);
     let mut before = None;
     for i in 0..asked.len() {
         let dependency = asked[i];
@@ -130,9 +130,9 @@ pub(crate) fn find_faults<'a>(
     end: u64,
     placed: &[PlacedSeg<'_, 'a, 'a>],
     depends: &[Dependency],
-) -> Result<Vec<Fault<'a>>, NoMemory>
+) -> Result<Faults<'a>, NoMemory>
     requires { AreByLabel placed.now }
-    ensures { IfOk result (λ v. (f : Fault) → Contains v.items f
+    ensures { IfOk result (λ v. (f : Fault) → Contains v f
         ↔ IsFound (nodes_view nodes.now) delims end (placed_views placed.now) depends.now f) }
 {
     let asked = in_target_order(alloc, placed, depends)?;

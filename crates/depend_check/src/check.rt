@@ -14,7 +14,7 @@ use crate::asked::find_faults;
 use crate::few::find_few;
 use crate::groups::{keep_labelled, sort_by_label};
 use guide_tree::{Dependency, Guide, GuideRows, Node};
-use hub_kinds::{Fault, NoMemory, in_order};
+use hub_kinds::{Faults, NoMemory};
 use loop_match::{Placing, placed_segments};
 use std::alloc::Global;
 use x12_bytes::Delims;
@@ -31,8 +31,8 @@ fn find_in_body<'a>(
     nodes: &'a [Node],
     delims: Delims,
     depends: &[Dependency],
-) -> Result<Vec<Fault<'a>>, NoMemory>
-    ensures { IfOk result (λ v. (f : Fault) → Contains v.items f ↔ IsFound (nodes_view nodes.now) delims (length segs.now + 2)
+) -> Result<Faults<'a>, NoMemory>
+    ensures { IfOk result (λ v. (f : Fault) → Contains v f ↔ IsFound (nodes_view nodes.now) delims (length segs.now + 2)
         (placed_segments (nodes_view nodes.now) (map elements_of segs.now) (map place_in placing.now.given)) depends.now f) }
 {
     let mut placed = placed_segments(alloc, segs, placing, nodes)?;
@@ -52,14 +52,14 @@ fn check_by_rows<'a>(
     placing: &Placing,
     rows: &'a GuideRows,
     delims: Delims,
-) -> Result<Vec<Fault<'a>>, NoMemory>
+) -> Result<Faults<'a>, NoMemory>
     requires { IsAccepted rows.now }
-    ensures faults { IfOk result (λ v. (f : Fault) → Contains v.items f ↔ IsDependencyFault (guide_of rows.now) delims
+    ensures faults { IfOk result (λ v. (f : Fault) → Contains v f ↔ IsDependencyFault (guide_of rows.now) delims
         (map elements_of segs.now) (map place_in placing.now.given) (length segs.now + 2) f) }
-    ensures rising { IfOk result (λ v. AreRising v.items) }
+    ensures rising { IfOk result (λ v. AreRising v) }
 {
     let (nodes, depends) = (rows.nodes.as_slice(), rows.depends.as_slice());
-    Ok(in_order(find_in_body(alloc, segs, placing, nodes, delims, depends)?))
+    Ok(find_in_body(alloc, segs, placing, nodes, delims, depends)?.in_order())
 }
 
 /// Exactly the faults of the dependencies of a guide in a body, under these places of its segments, where all segments
@@ -71,18 +71,18 @@ pub fn check_dependencies<'a>(
     segs: &[SegView<'a>],
     placing: &Placing,
     guide: &'a Guide,
-) -> Result<Vec<Fault<'a>>, NoMemory>
+) -> Result<Faults<'a>, NoMemory>
     ensures faults { IfOk result (λ v. (delims : Delims) → All (λ s. s.delims ≡ delims) segs.now → (f : Fault)
-        → Contains v.items f ↔ IsDependencyFault (guide_of guide.now) delims (map elements_of segs.now)
+        → Contains v f ↔ IsDependencyFault (guide_of guide.now) delims (map elements_of segs.now)
         (map place_in placing.now.given) (length segs.now + 2) f) }
-    ensures rising { IfOk result (λ v. AreRising v.items) }
+    ensures rising { IfOk result (λ v. AreRising v) }
 {
     let rows = guide.rows();
     if rows.depends.as_slice().is_empty() {
-        return Ok(Vec::new(alloc));
+        return Ok(Faults::new(alloc));
     }
     match segs.first() {
-        None => Ok(Vec::new(alloc)),
+        None => Ok(Faults::new(alloc)),
         Some(first) => check_by_rows(alloc, segs, placing, rows, first.delims()),
     }
 }

@@ -11,7 +11,7 @@ ghost use Rattle.depend_check.specs.Uses.{IsFound, IsFoundBy};
 use crate::asked::add_left_out;
 use crate::uses::{add_uses, is_use};
 use guide_tree::{Dependency, Node};
-use hub_kinds::{Fault, NoMemory};
+use hub_kinds::{Faults, NoMemory};
 use loop_match::{PlacedSeg, text_at};
 use std::alloc::Global;
 use x12_bytes::Delims;
@@ -44,14 +44,14 @@ fn is_triggered(dependency: &Dependency, placed: &[PlacedSeg]) -> bool
 
 /// Adds what is wrong by a dependency that is triggered, in any order of the segments.
 fn add_broken_by<'a>(
-    faults: &mut Vec<Fault<'a>>,
+    faults: &mut Faults<'a>,
     nodes: &'a [Node],
     delims: Delims,
     end: u64,
     placed: &[PlacedSeg<'_, 'a, 'a>],
     dependency: &Dependency,
 ) -> Result<(), NoMemory>
-    ensures { OnOk result ((f : Fault) → Contains faults.new.items f ↔ (Contains faults.old.items f
+    ensures { OnOk result ((f : Fault) → Contains faults.new f ↔ (Contains faults.old f
         ⊎ IsBroken (nodes_view nodes.now) delims end (placed_views placed.now) dependency.now f)) }
 {
     add_left_out(faults, nodes, end, placed, dependency)?;
@@ -60,14 +60,14 @@ fn add_broken_by<'a>(
 
 /// Adds the faults of a dependency that may not be triggered.
 fn add_found<'a>(
-    faults: &mut Vec<Fault<'a>>,
+    faults: &mut Faults<'a>,
     nodes: &'a [Node],
     delims: Delims,
     end: u64,
     placed: &[PlacedSeg<'_, 'a, 'a>],
     dependency: &Dependency,
 ) -> Result<(), NoMemory>
-    ensures { OnOk result ((f : Fault) → Contains faults.new.items f ↔ (Contains faults.old.items f
+    ensures { OnOk result ((f : Fault) → Contains faults.new f ↔ (Contains faults.old f
         ⊎ IsFoundBy (nodes_view nodes.now) delims end (placed_views placed.now) dependency.now f)) }
 {
     if !is_triggered(dependency, placed) {
@@ -84,11 +84,11 @@ pub(crate) fn find_few<'a>(
     end: u64,
     placed: &[PlacedSeg<'_, 'a, 'a>],
     depends: &[Dependency],
-) -> Result<Vec<Fault<'a>>, NoMemory>
-    ensures { IfOk result (λ v. (f : Fault) → Contains v.items f
+) -> Result<Faults<'a>, NoMemory>
+    ensures { IfOk result (λ v. (f : Fault) → Contains v f
         ↔ IsFound (nodes_view nodes.now) delims end (placed_views placed.now) depends.now f) }
 {
-    let mut faults = Vec::new(alloc);
+    let mut faults = Faults::new(alloc);
     for i in 0..depends.len() {
         let dependency = &depends[i];
         add_found(&mut faults, nodes, delims, end, placed, dependency)?;

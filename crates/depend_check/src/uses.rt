@@ -7,7 +7,7 @@ ghost use Rattle.loop_match.specs.Viewed.{placed_view, placed_views};
 use crate::fault::told_of;
 use elem_rules::is_empty;
 use guide_tree::{Dependency, DependencyKind};
-use hub_kinds::{Fault, NoMemory};
+use hub_kinds::{Faults, NoMemory};
 use loop_match::{PlacedSeg, text_at};
 use x12_bytes::Delims;
 
@@ -55,13 +55,13 @@ fn is_broken_by(delims: Delims, kind: DependencyKind, element: u32, placed: &Pla
 
 /// Adds what a segment breaks of a dependency that is triggered.
 fn add_use<'a>(
-    faults: &mut Vec<Fault<'a>>,
+    faults: &mut Faults<'a>,
     delims: Delims,
     dependency: &Dependency,
     placed: &PlacedSeg<'_, 'a, 'a>,
 ) -> Result<(), NoMemory>
-    ensures { OnOk result (faults.new.items
-        ≡ faults.old.items ++ faults_of_use delims dependency.now.target dependency.now.kind dependency.now.element
+    ensures { OnOk result (faults.new
+        ≡ faults.old ++ faults_of_use delims dependency.now.target dependency.now.kind dependency.now.element
         (placed_view placed.now)) }
 {
     let (kind, element) = (dependency.kind, dependency.element);
@@ -73,13 +73,13 @@ fn add_use<'a>(
 
 /// Adds what the segments break of a dependency that is triggered.
 pub(crate) fn add_uses<'a>(
-    faults: &mut Vec<Fault<'a>>,
+    faults: &mut Faults<'a>,
     delims: Delims,
     dependency: &Dependency,
     placed: &[PlacedSeg<'_, 'a, 'a>],
 ) -> Result<(), NoMemory>
-    ensures { OnOk result (faults.new.items
-        ≡ faults.old.items ++ flat_map (faults_of_use delims dependency.now.target dependency.now.kind
+    ensures { OnOk result (faults.new
+        ≡ faults.old ++ flat_map (faults_of_use delims dependency.now.target dependency.now.kind
         dependency.now.element) (placed_views placed.now)) }
 {
     for i in 0..placed.len() {

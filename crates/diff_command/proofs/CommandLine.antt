@@ -4,7 +4,7 @@ use Rattle.clap.specs.Words.{HasMatchesOf, Text, first_value, found_of, is_simpl
 use Rattle.clap.specs.declared.parser.matches.ArgMatches.{ArgMatches}
 use Rattle.clap.proofs.OnLiterals.{clap_on_literals}
 use Rattle.std.specs.declared.alloc.Global.{Global}
-use Rattle.night_ends.proofs.ForAbove.{found}
+use Rattle.system_io.proofs.ForAbove.{found}
 use Rattle.program_frame.specs.Matching.{AsksForText}
 use Rattle.diff_command.specs.CommandLine.{AreGuides, ArePaths, IsAsked, IsGiven, NamesTooFew, diff_app, value_of}
 use Rattle.diff_command.specs.declared.command.Asked.{Asked}

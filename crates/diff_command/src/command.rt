@@ -5,10 +5,10 @@ ghost use Rattle.diff_command.specs.CommandLine.{IsAsked, IsCommandLine, IsGiven
 
 use clap::{ArgMatches, Command};
 use hub_kinds::copy_text;
-use night_ends::with_argument;
 use program_frame::{Matched, Mistake, match_words, option_free, program, word};
 use std::alloc::{AllocError, Global};
 use std::convert::AsStr;
+use system_io::with_argument;
 
 /// The name of the program.
 pub const PROGRAM: &str = "nighthub_diff";

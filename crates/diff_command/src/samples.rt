@@ -7,10 +7,10 @@ use diff_report::{Report, compared};
 use diff_samples::put_samples;
 use guide_tree::Guide;
 use hub_kinds::NoMemory;
-use night_ends::Directory;
 use sample_folder::NotPut;
 use std::alloc::Global;
 use std::rt::Files;
+use system_io::Directory;
 
 /// What is printed of the guides `old` and `new`, after samples of their differences are put into `folder`, if one is given.
 pub(crate) fn report_with<R: Files + AllocGlobal>(

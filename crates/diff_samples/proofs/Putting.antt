@@ -14,7 +14,7 @@ use Rattle.guide_widening.specs.declared.difference.Difference.{Difference}
 use Rattle.guide_samples.specs.Between.{ShowsDifference}
 use Rattle.diff_lines.specs.Lines.{difference_text}
 use Rattle.diff_lines.specs.Paths.{paths_of}
-use Rattle.night_ends.specs.Outbox.{AddsFiles, File}
+use Rattle.system_io.specs.Outbox.{AddsFiles, File}
 use Rattle.sample_folder.specs.Names.{file_name}
 use Rattle.diff_samples.specs.Samples.{AddsFirst, AddsOne, AddsSamples, AreKnown, IsKnown, Known, Sample, files_of, index_text, row_of}
 use Rattle.diff_samples.specs.Samples.{row_text}

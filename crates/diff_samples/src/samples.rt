@@ -1,5 +1,5 @@
 ghost use Rattle.std.specs.Prelude.{◌≡◌, ◌<◌, ◌∷◌, [], OnOk, length};
-ghost use Rattle.night_ends.specs.Outbox.{AddsFiles};
+ghost use Rattle.system_io.specs.Outbox.{AddsFiles};
 ghost use Rattle.guide_tree.specs.Words.{guide_of};
 ghost use Rattle.guide_widening.specs.Changes.{is_widening};
 ghost use Rattle.guide_widening.specs.Differences.{differences};
@@ -12,9 +12,9 @@ use guide_samples::{Broken, sample_between};
 use guide_tree::Guide;
 use guide_widening::{Change, Difference, differences};
 use hub_kinds::{NoMemory, Text};
-use night_ends::Outbox;
 use sample_folder::{NotPut, file_name, put};
 use std::alloc::Global;
+use system_io::Outbox;
 
 /// Two guides, their differences, and the paths of the nodes of each.
 #[derive(Clone, Copy)]

@@ -1,7 +1,7 @@
 -- The command line (own), read as clap's definitions say: the files of acknowledgments, one or more, and a names file if there is one.
 use Rattle.std.specs.Prelude.{◌≡◌, ◌≢◌, ℕ, Option, true, codes, List, [], map, option_map}
 use Rattle.clap.specs.Words.{App, Text, takes, with_rule}
-use Rattle.night_ends.specs.Words.{or_none}
+use Rattle.system_io.specs.Words.{or_none}
 use Rattle.program_frame.specs.Arguments.{option_free, program, value_in, values_in, words}
 use Rattle.program_frame.specs.Matching.{AsksForText}
 use Rattle.explain_command.specs.declared.command.Asked.{Asked}

@@ -11,10 +11,10 @@ use crate::failure::Failure;
 use ack_lines::named_explanation;
 use ack_read::{ReadFault, read_acknowledgments};
 use guide_names::Names;
-use night_ends::read_whole;
 use std::alloc::Global;
 use std::io;
 use std::io::Read;
+use system_io::read_whole;
 use x12_bytes::{Delims, read_header};
 
 /// The lines on acknowledgments, and where their text is cut off.

@@ -10,11 +10,11 @@ use crate::failure::Failure;
 use file_names::append_shown;
 use guide_names::Names;
 use hub_kinds::NoMemory;
-use night_ends::{Opened, open_at};
 use std::alloc::Global;
 use std::io;
 use std::io::Read;
 use std::rt::Files;
+use system_io::{Opened, open_at};
 
 /// What is reported of a file.
 #[derive(Debug, Drop)]

@@ -11,12 +11,12 @@ use guide_names::Names;
 use hub_kinds::NoMemory;
 use names_file::JudgedNames;
 use names_given::names_at;
-use night_ends::print_text;
 use program_frame::{print_out, report_memory};
 use std::alloc::Global;
 use std::convert::AsStr;
 use std::io::Write;
 use std::rt::Files;
+use system_io::print_text;
 
 /// What is printed on standard output and on standard error, and what is reported of each file.
 #[derive(Drop)]

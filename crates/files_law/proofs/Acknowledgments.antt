@@ -21,7 +21,7 @@ use Rattle.ack_999.specs.Interchange.{group_count, group_part, interchange_text,
 use Rattle.ack_999.specs.ReadBack.{written_parts}
 use Rattle.ack_999.specs.Ta1.{ta1_text}
 use Rattle.env_index.specs.Words.{InterchangeEntry}
-use Rattle.judged_text.specs.Answered.{ta1_note}
+use Rattle.answered_sets.specs.Answered.{ta1_note}
 use Rattle.partner_setup.specs.declared.partner.Partner.{Partner}
 use Rattle.partner_setup.specs.Envelopes.{envelope_to}
 use Rattle.partner_setup.specs.Setup.{SetupValue}

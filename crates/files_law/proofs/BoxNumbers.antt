@@ -12,7 +12,7 @@ use Rattle.moment.specs.Moment.{IsMoment}
 use Rattle.x12_write.specs.declared.envelope.Envelope.{Envelope}
 use Rattle.x12_write.specs.Group.{texts_in_row}
 use Rattle.x12_write.specs.Header.{header_text}
-use Rattle.x12_write.specs.Number.{padded_number}
+use Rattle.x12_write.specs.Number.{padded_number, set_number}
 use Rattle.x12_write.specs.Segment.{WrittenSegment, segment_text, trimmed}
 use Rattle.ack_999.specs.ReadBack.{written_parts}
 use Rattle.ack_999.proofs.ForAbove.{IsReadable, readable}
@@ -23,7 +23,7 @@ use Rattle.partner_setup.specs.Envelopes.{envelope_to}
 use Rattle.partner_setup.specs.Setup.{SetupValue}
 use Rattle.partner_setup.specs.SetupFaults.{are_ids}
 use Rattle.partner_setup.specs.Sound.{IsSoundPartner}
-use Rattle.judged_text.specs.Judged.{PlacedValue, delims_in}
+use Rattle.answered_sets.specs.Judged.{PlacedValue, delims_in}
 use Rattle.mailbox.specs.Mailbox.{box_text, delivered_group_text, delivered_text, delivered_texts, groups_text, numbered_text}
 use Rattle.mailbox.specs.Numbered.{NumberedValue, groups_of, numbered_from}
 use Rattle.night_law.proofs.ForAbove as box
@@ -67,7 +67,7 @@ module _ (setup : SetupValue) (p : Partner) (guides : ℕ) (hub_ids : are_ids se
 
   -- one set
   set_gives : (i g : List ℕ) (x : NumberedValue) → Sent x
-      → Gives d (numbered_text p x) i g ((i ∷ g ∷ padded_number 4 (num p.counters.set x.place) ∷ []) ∷ []) i g
+      → Gives d (numbered_text p x) i g ((i ∷ g ∷ set_number (num p.counters.set x.place) ∷ []) ∷ []) i g
   set_gives i g x sent =
       let n : ℕ = num p.counters.set x.place in
       let w : WholeSet = delivered_set d marks sound.divides x.set sent.ready.fit n in
@@ -82,17 +82,17 @@ module _ (setup : SetupValue) (p : Partner) (guides : ℕ) (hub_ids : are_ids se
         gives = λ ss.
             ap (map numbers_of) (one_set i g w ss refl refl refl (all_between w.inner whole.inner))
             ∙ ap (λ (st02 : List ℕ). (i ∷ g ∷ st02 ∷ []) ∷ map numbers_of (found_behind i g None ss))
-            (second (elements_of x.set.set.header) _ (padded_number 4 n) word);
+            (second (elements_of x.set.set.header) _ (set_number n) word);
       }
 
   sets_give : (i g : List ℕ) (xs : List NumberedValue) → All Sent xs
       → Gives d (texts_in_row (map (numbered_text p) xs)) i g
-      (map (λ (x : NumberedValue). i ∷ g ∷ padded_number 4 (num p.counters.set x.place) ∷ []) xs) i g
+      (map (λ (x : NumberedValue). i ∷ g ∷ set_number (num p.counters.set x.place) ∷ []) xs) i g
   sets_give i g [] all = gives_nothing d i g
   sets_give i g (x ∷ xs) all =
       gives_both d (numbered_text p x) (texts_in_row (map (numbered_text p) xs)) i g i g i g
-      ((i ∷ g ∷ padded_number 4 (num p.counters.set x.place) ∷ []) ∷ [])
-      (map (λ (x : NumberedValue). i ∷ g ∷ padded_number 4 (num p.counters.set x.place) ∷ []) xs)
+      ((i ∷ g ∷ set_number (num p.counters.set x.place) ∷ []) ∷ [])
+      (map (λ (x : NumberedValue). i ∷ g ∷ set_number (num p.counters.set x.place) ∷ []) xs)
       (set_gives i g x (All-head Sent x xs all)) (sets_give i g xs (All-tail Sent x xs all))
 
   -- one group
@@ -115,14 +115,14 @@ module _ (setup : SetupValue) (p : Partner) (guides : ℕ) (hub_ids : are_ids se
 
   group_gives : (i g : List ℕ) (n : ℕ) (x : NumberedValue) (xs : List NumberedValue) → All Sent (x ∷ xs)
       → Gives d (delivered_group_text setup p at n (x ∷ xs)) i g
-      (map (λ (x : NumberedValue). i ∷ decimal n ∷ padded_number 4 (num p.counters.set x.place) ∷ []) (x ∷ xs)) i (decimal n)
+      (map (λ (x : NumberedValue). i ∷ decimal n ∷ set_number (num p.counters.set x.place) ∷ []) (x ∷ xs)) i (decimal n)
   group_gives i g n x xs all =
       let texts : List (List ℕ) = map (numbered_text p) (x ∷ xs) in
       let gs : WrittenSegment = gs_of x n in
       let ge : WrittenSegment = ge_of (length texts) n in
       let first : List ℕ = segment_text d gs.id gs.elements in
       let last : List ℕ = segment_text d ge.id ge.elements in
-      let numbers = map (λ (x : NumberedValue). i ∷ decimal n ∷ padded_number 4 (num p.counters.set x.place) ∷ []) (x ∷ xs) in
+      let numbers = map (λ (x : NumberedValue). i ∷ decimal n ∷ set_number (num p.counters.set x.place) ∷ []) (x ∷ xs) in
       subst (λ (ns : List (List (List ℕ))). Gives d (first ++ texts_in_row texts ++ last) i g ns i (decimal n)) (append-nil numbers)
       (gives_both d (first ++ texts_in_row texts) last i g i (decimal n) i (decimal n) numbers []
       (gives_both d first (texts_in_row texts) i g i (decimal n) i (decimal n) [] numbers (gs_gives i g x n (All-head Sent x xs all))

@@ -7,12 +7,12 @@ use Rattle.count_numbers.specs.Num.{num}
 use Rattle.partner_setup.specs.declared.partner.Partner.{Partner}
 use Rattle.partner_setup.specs.Setup.{SetupValue}
 use Rattle.partner_setup.specs.Sound.{IsSoundPartner, IsSoundSetup}
-use Rattle.judged_text.specs.Judged.{PlacedValue}
+use Rattle.answered_sets.specs.Judged.{PlacedValue}
 use Rattle.mailbox.specs.Mailbox.{delivered_text, delivered_texts}
 use Rattle.mailbox.specs.Numbered.{NumberedValue, groups_of, numbered_from}
-use Rattle.checked_text.specs.CheckedText.{acknowledged_to, groups_to}
-use Rattle.night_writing.specs.declared.night.Night.{Night}
-use Rattle.night_writing.specs.Night.{IsNight, box_of, sets_to}
+use Rattle.set_answers.specs.CheckedText.{acknowledged_to, groups_to}
+use Rattle.night_batches.specs.declared.night.Night.{Night}
+use Rattle.night_batches.specs.Night.{IsNight, box_of, sets_to}
 use Rattle.night_law.proofs.ForAbove.{at_index, pairs_weaker_at}
 use Rattle.files_law.specs.Files.{HasInterchanges}
 use Rattle.files_law.specs.Written.{NoInnerHeads, texts_of}

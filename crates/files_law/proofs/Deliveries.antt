@@ -16,7 +16,7 @@ use Rattle.partner_setup.specs.declared.partner.Partner.{Partner}
 use Rattle.partner_setup.specs.Setup.{SetupValue, route_of}
 use Rattle.partner_setup.specs.Sound.{AreApart, IsSoundSetup}
 use Rattle.partner_setup.proofs.ForAbove.{targets_apart}
-use Rattle.judged_text.specs.Judged.{JudgedValue, PlacedValue, all_sets, sets_of_groups_from, is_refused, sets_of}
+use Rattle.answered_sets.specs.Judged.{JudgedValue, PlacedValue, all_sets, sets_of_groups_from, is_refused, sets_of}
 use Rattle.mailbox.specs.declared.outcome.Outcome.TheVariants.{DeliveredTo, HeldForDelimiter}
 use Rattle.mailbox.specs.Deliveries.{is_blocked, is_deliverable, is_delivered_to, is_delivery_to, outcome_at}
 use Rattle.mailbox.specs.Delivering.{is_sent_by}

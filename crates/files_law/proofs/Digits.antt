@@ -11,7 +11,7 @@ use Rattle.std.proofs.lemmas.List.{length-replicate}
 use Rattle.std.proofs.lemmas.List.Folds.{list_all-append}
 use Rattle.std.proofs.lemmas.List.Sums.{fold-append}
 use Rattle.hub_kinds.specs.Words.{is_number, number_of, value_of, is_word}
-use Rattle.x12_write.specs.Number.{padded_number}
+use Rattle.x12_write.specs.Number.{padded_number, set_number}
 
 digit_read : (k : ℕ) → k < 10 → is_ascii_digit (48 + k) ≡ true
 digit_read k small =
@@ -80,9 +80,9 @@ all_alike (b ∷ text) all =
     and_from (is_ascii_alphanumeric b) (list_all is_ascii_alphanumeric text) (alike (is_ascii_digit b) _ _ both.0) (all_alike text both.1)
 
 -- ST02
-pub padded_word : (n : ℕ) → n ≤ 999999999 → is_word 1 9 (padded_number 4 n) ≡ true
+pub padded_word : (n : ℕ) → n ≤ 999999999 → is_word 1 9 (set_number n) ≡ true
 padded_word n small =
-    let text : List ℕ = padded_number 4 n in
+    let text : List ℕ = set_number n in
     let short = length-decimal-le 9 n (omega arith) (omega arith) (omega arith) in
     let some = decimal_nonempty n (omega arith) in
     let front = length-append (replicate (4 - length (decimal n)) 48) (decimal n) in

@@ -10,15 +10,15 @@ use Rattle.count_numbers.proofs.ForAbove.{no_interchange}
 use Rattle.partner_setup.specs.declared.partner.Partner.{Partner}
 use Rattle.partner_setup.specs.Setup.{SetupValue}
 use Rattle.partner_setup.specs.Sound.{IsSoundPartner, IsSoundSetup}
-use Rattle.judged_text.specs.Judged.{PlacedValue, all_sets}
+use Rattle.answered_sets.specs.Judged.{PlacedValue, all_sets}
 use Rattle.mailbox.specs.Mailbox.{group_total, groups_within}
 use Rattle.mailbox.specs.Numbered.{NumberedValue, numbered_from}
-use Rattle.checked_text.specs.CheckedText.{CheckedInterchange, acknowledged_to, is_acknowledged_to, is_partner}
-use Rattle.checked_text.specs.CheckedText.{acknowledgment_of, recipient_of}
-use Rattle.checked_text.specs.CheckedText as checked
-use Rattle.checked_text.specs.Acknowledgments.{has_reports}
-use Rattle.night_writing.specs.declared.night.Night.{Night}
-use Rattle.night_writing.specs.Night.{IsNight, box_of, judgements, sets_to}
+use Rattle.set_answers.specs.CheckedText.{CheckedInterchange, acknowledged_to, is_acknowledged_to, is_partner}
+use Rattle.set_answers.specs.CheckedText.{acknowledgment_of, recipient_of}
+use Rattle.set_answers.specs.CheckedText as checked
+use Rattle.set_answers.specs.Acknowledgments.{has_reports}
+use Rattle.night_batches.specs.declared.night.Night.{Night}
+use Rattle.night_batches.specs.Night.{IsNight, box_of, judgements, sets_to}
 use Rattle.night_law.proofs.ForAbove.{at_index, chunks_all, known_once, numbered_all, pairs_weaker_at}
 use Rattle.files_law.proofs.Placed.{IsSent, sets_sent, sources_known}
 use Rattle.set_documents.specs.Documents.{DocumentValue}

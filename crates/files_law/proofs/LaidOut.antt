@@ -6,14 +6,14 @@ use Rattle.std.specs.Prelude.{decimal}
 use Rattle.std.proofs.Math.Nat.{mul-add-mod_self_right, mod-eq_of_lt}
 use Rattle.std.proofs.lemmas.Nat.{div-mul-add}
 use Rattle.std.proofs.lemmas.List.{length-take, take-append-drop}
-use Rattle.x12_write.specs.Number.{padded_number}
+use Rattle.x12_write.specs.Number.{padded_number, set_number}
 use Rattle.count_numbers.specs.Layout.{interchanges_of}
 use Rattle.count_numbers.specs.Num.{num}
 use Rattle.count_numbers.specs.Runs.{same_key}
 use Rattle.count_numbers.specs.declared.run.RunKey.{RunKey}
 use Rattle.count_numbers.proofs.ForAbove.{first_interchange, no_interchange, not_none}
 use Rattle.partner_setup.specs.declared.partner.Partner.{Partner}
-use Rattle.judged_text.specs.Judged.{PlacedValue}
+use Rattle.answered_sets.specs.Judged.{PlacedValue}
 use Rattle.mailbox.specs.Mailbox.{group_total}
 use Rattle.mailbox.specs.Numbered.{NumberedValue, goes_with, groups_of, group_key_of, numbered_from, onto_groups}
 use Rattle.track_table.specs.Mailed.{mailed_behind}
@@ -53,7 +53,7 @@ begins_inside r a b = ap (λ (c : Bool). if c || not (same_key a b) then 1 else 
 module _ (partner : Partner) (acknowledgments groups : ℕ) where
   -- the number of set k, which stands in group g of those that the partner is sent
   abbrev pub numbers_at : (isa13 : List ℕ) → (g k : ℕ) → Numbers
-  numbers_at i g k = i ∷ decimal (num partner.counters.group g) ∷ padded_number 4 (num partner.counters.set k) ∷ []
+  numbers_at i g k = i ∷ decimal (num partner.counters.group g) ∷ set_number (num partner.counters.set k) ∷ []
 
   abbrev pub in_group : (isa13 : List ℕ) → (g : ℕ) → List NumberedValue → List Numbers
   in_group i g xs = map (λ x. numbers_at i g x.place) xs
@@ -178,7 +178,7 @@ module _ (partner : Partner) (acknowledgments groups : ℕ) where
         let group : groups + (total (done ++ p ∷ []) - 1) ≡ g = omega (arith, some, is) in
         ap (λ (n : ℕ). padded_number 9 (num partner.counters.interchange (acknowledgments + n))
         ∷ decimal (num partner.counters.group (groups + (total (done ++ p ∷ []) - 1)))
-        ∷ padded_number 4 (num partner.counters.set (length done)) ∷ []) interchange
+        ∷ set_number (num partner.counters.set (length done)) ∷ []) interchange
         ∙ ap (λ (n : ℕ). numbers_at (padded_number 9 (num partner.counters.interchange (acknowledgments + m))) n (length done)) group
 
     -- the sets of an interchange, set by set

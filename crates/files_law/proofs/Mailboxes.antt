@@ -22,7 +22,7 @@ use Rattle.partner_setup.specs.Envelopes.{envelope_to}
 use Rattle.partner_setup.specs.Setup.{SetupValue}
 use Rattle.partner_setup.specs.SetupFaults.{are_ids}
 use Rattle.partner_setup.specs.Sound.{IsSoundPartner}
-use Rattle.judged_text.specs.Judged.{PlacedValue, delims_in}
+use Rattle.answered_sets.specs.Judged.{PlacedValue, delims_in}
 use Rattle.mailbox.specs.Mailbox.{delivered_group_text, delivered_text, groups_text, numbered_text}
 use Rattle.mailbox.specs.Numbered.{NumberedValue, goes_with, groups_of, numbered_from, onto_groups}
 use Rattle.night_law.proofs.ForAbove as box

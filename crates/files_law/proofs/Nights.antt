@@ -17,17 +17,17 @@ use Rattle.partner_setup.specs.Setup.{SetupValue}
 use Rattle.partner_setup.specs.Sound.{IsSoundPartner, IsSoundSetup}
 use Rattle.partner_setup.specs.SetupFaults.{are_ids}
 use Rattle.hub_kinds.specs.declared.interchange.InterchangeFault.{InterchangeFault}
-use Rattle.judged_text.specs.Judged.{responded_groups}
+use Rattle.answered_sets.specs.Judged.{responded_groups}
 use Rattle.ack_999.specs.Report.{text_999}
-use Rattle.checked_text.specs.declared.answered.AnsweredGroup.{AnsweredGroup}
-use Rattle.checked_text.specs.Acknowledgments.{acknowledgment_text, acknowledgment_group_count, present, reports_from, ta1_of}
-use Rattle.checked_text.specs.Answers.{SentValue}
-use Rattle.checked_text.specs.CheckedText.{AreAnswersBy, AreCheckedAs, CheckedInterchange, IsCheckedAs, acknowledged_to, acknowledgment_of}
-use Rattle.checked_text.specs.CheckedText.{acknowledgments_from, is_acknowledged_to, sent_by}
-use Rattle.checked_text.specs.Pairs.{AreAllPairs}
-use Rattle.checked_text.specs.Settled.{settled_faults}
-use Rattle.night_writing.specs.declared.night.Night.{Night}
-use Rattle.night_writing.specs.Night.{IsNight, acks_of}
+use Rattle.set_answers.specs.declared.answered.AnsweredGroup.{AnsweredGroup}
+use Rattle.set_answers.specs.Acknowledgments.{acknowledgment_text, acknowledgment_group_count, present, reports_from, ta1_of}
+use Rattle.set_answers.specs.Answers.{SentValue}
+use Rattle.set_answers.specs.CheckedText.{AreAnswersBy, AreCheckedAs, CheckedInterchange, IsCheckedAs, acknowledged_to, acknowledgment_of}
+use Rattle.set_answers.specs.CheckedText.{acknowledgments_from, is_acknowledged_to, sent_by}
+use Rattle.set_answers.specs.Pairs.{AreAllPairs}
+use Rattle.set_answers.specs.Settled.{settled_faults}
+use Rattle.night_batches.specs.declared.night.Night.{Night}
+use Rattle.night_batches.specs.Night.{IsNight, acks_of}
 use Rattle.night_law.specs.Quotable.{IsGroupQuotable}
 use Rattle.night_law.specs.Told.{groups_told, is_told_to}
 use Rattle.night_law.proofs.ForAbove.{IsAnsweredGroup, IsGroupRead, IsRead, acknowledged_as_told, all_read, answered_anywhere, answers_here}

@@ -1,8 +1,8 @@
 -- A text has one table by a setup and by named documents.
 use Rattle.std.proofs.Common.{◌≡◌, ℕ, List, Bool, sym, ap, ◌∙◌}
 use Rattle.partner_setup.specs.Setup.{SetupValue}
-use Rattle.checked_text.specs.CheckedText.{CheckedInterchange}
-use Rattle.night_writing.specs.Night.{judgements}
+use Rattle.set_answers.specs.CheckedText.{CheckedInterchange}
+use Rattle.night_batches.specs.Night.{judgements}
 use Rattle.night_report.specs.Clean.{is_clean}
 use Rattle.night_report.specs.Report.{report_text}
 use Rattle.night_law.proofs.ForAbove.{known_once}

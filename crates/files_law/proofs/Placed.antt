@@ -12,12 +12,12 @@ use Rattle.env_index.specs.Words.{GroupEntry, IndexEntry, has_set_headers, is_gr
 use Rattle.partner_setup.specs.declared.partner.Partner.{Partner}
 use Rattle.partner_setup.specs.Setup.{SetupValue}
 use Rattle.partner_setup.specs.Sound.{IsSoundPartner, IsSoundSetup}
-use Rattle.judged_text.specs.declared.standing.GroupStanding.{GroupStanding}
-use Rattle.judged_text.specs.Judged.{JudgedValue, PlacedValue, all_sets, delims_in, sets_of_groups_from, sets_from, sets_of, standing_at}
+use Rattle.answered_sets.specs.declared.standing.GroupStanding.{GroupStanding}
+use Rattle.answered_sets.specs.Judged.{JudgedValue, PlacedValue, all_sets, delims_in, sets_of_groups_from, sets_from, sets_of, standing_at}
 use Rattle.mailbox.specs.Deliveries.{is_delivered_to}
-use Rattle.checked_text.specs.CheckedText.{CheckedInterchange, IsCheckedAs, judged}
-use Rattle.checked_text.specs.Settled.{settled_faults}
-use Rattle.night_writing.specs.Night.{IsKnown, sets_to}
+use Rattle.set_answers.specs.CheckedText.{CheckedInterchange, IsCheckedAs, judged}
+use Rattle.set_answers.specs.Settled.{settled_faults}
+use Rattle.night_batches.specs.Night.{IsKnown, sets_to}
 use Rattle.night_law.proofs.ForAbove.{AreApart, AreElementsUndivided, IsReady, IsSettledSound, IsSource, IsThere, at_index, delivered_free}
 use Rattle.night_law.proofs.ForAbove.{elements_undivided, faultless, is_ready, pairs_all, passing, settled_sound, settled_sources}
 use Rattle.files_law.proofs.Faults.{ArePlain, HasPlain, have_headers, settled_plain}

@@ -10,7 +10,7 @@ use Rattle.hub_kinds.specs.Words.{is_word}
 use Rattle.hub_kinds.specs.declared.answers.GroupAnswer.{GroupAnswer}
 use Rattle.hub_kinds.specs.declared.answers.SetAnswer.{SetAnswer}
 use Rattle.x12_segs.specs.Words.{may_stand_in_set, kind_by_id, part_or_empty}
-use Rattle.x12_write.specs.Number.{padded_number}
+use Rattle.x12_write.specs.Number.{set_number}
 use Rattle.x12_write.specs.Segment.{WrittenSegment, segment}
 use Rattle.x12_write.specs.Undivided.{CanDivide}
 use Rattle.ack_999.specs.Faults.{ElementNote, Note, SegmentNote, fault_segments, note_segment, notes}
@@ -64,7 +64,7 @@ kinds_inner (s ∷ segs) all =
 
 module _ (d : Delims) (g : GroupAnswer) (sets : List SetAnswer) (n : ℕ) where
   abbrev st_elements : List (List ℕ)
-  st_elements = codes "999" ∷ padded_number 4 n ∷ codes "005010X231" ∷ []
+  st_elements = codes "999" ∷ set_number n ∷ codes "005010X231" ∷ []
 
   abbrev st : WrittenSegment
   st = segment (codes "ST") st_elements
@@ -106,7 +106,7 @@ module _ (d : Delims) (g : GroupAnswer) (sets : List SetAnswer) (n : ℕ) where
       let two : List ℕ = part_or_empty (written_parts st) 2 in
       ap (λ (a : List ℕ). f a two) (trimmed_at st_elements 0)
       ∙ ap (λ (b : List ℕ). f (codes "999") b) (trimmed_at st_elements 1)
-      ∙ and_from (is_word 3 3 (codes "999")) (is_word 1 9 (padded_number 4 n)) refl (padded_word n small)
+      ∙ and_from (is_word 3 3 (codes "999")) (is_word 1 9 (set_number n)) refl (padded_word n small)
 
   pub report_whole : n ≤ 999999999 → IsWholeSet report_set
   report_whole small = record { kind = refl; header = st_is small; inner = kinds_inner middle middle_inner; trailer = refl }

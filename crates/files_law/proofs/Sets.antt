@@ -11,10 +11,10 @@ use Rattle.x12_bytes.specs.declared.delims.Delims.{Delims}
 use Rattle.hub_kinds.specs.Words.{is_word}
 use Rattle.x12_segs.specs.declared.kind.Kind.TheVariants.{InterchangeTrailer, GroupHeader, GroupTrailer, SetHeader, SetTrailer, Ta1, Other}
 use Rattle.x12_segs.specs.Words.{may_stand_in_set, kind_by_id, kind_of, parts, SegValue, elements_of, part_or_empty}
-use Rattle.x12_write.specs.Number.{padded_number}
+use Rattle.x12_write.specs.Number.{set_number}
 use Rattle.x12_write.specs.Undivided.{CanDivide}
 use Rattle.mailbox.specs.Deliveries.{inner_in}
-use Rattle.judged_text.specs.Judged.{PlacedValue, delims_in}
+use Rattle.answered_sets.specs.Judged.{PlacedValue, delims_in}
 use Rattle.mailbox.specs.Mailbox.{mapped, set_text}
 use Rattle.night_law.specs.SetsRead.{has_id}
 use Rattle.night_law.proofs.ForAbove as set
@@ -117,7 +117,7 @@ module _ (to : Delims) (marked : IsMarked to) (can : CanDivide to) (p : PlacedVa
       → is_word 3 3 (part_or_empty (elements_of p.set.header) 1) ≡ true → n ≤ 999999999 → IsWholeSet delivered_set
   delivered_whole keeps first small = record {
     kind = refl;
-    header = st_form (elements_of p.set.header) (mapped from to) (padded_number 4 n) keeps first (padded_word n small);
+    header = st_form (elements_of p.set.header) (mapped from to) (set_number n) keeps first (padded_word n small);
     inner = inner_kinds;
     trailer = refl;
   }

@@ -13,13 +13,13 @@ use Rattle.partner_setup.specs.declared.partner.Partner.{Partner}
 use Rattle.partner_setup.specs.Setup.{SetupValue, route_of}
 use Rattle.partner_setup.specs.Sound.{AreWithin, IsSoundSetup}
 use Rattle.partner_setup.proofs.ForAbove.{targets_within}
-use Rattle.judged_text.specs.Judged.{JudgedValue, PlacedValue, sets_of_groups_from, is_fa, is_refused, segments_in, sets_of}
-use Rattle.judged_text.specs.Judged.{verdict_by_standing}
+use Rattle.answered_sets.specs.Judged.{JudgedValue, PlacedValue, sets_of_groups_from, is_fa, is_refused, segments_in, sets_of}
+use Rattle.answered_sets.specs.Judged.{verdict_by_standing}
 use Rattle.mailbox.specs.declared.outcome.Outcome.TheVariants.{DeliveredTo, HeldForDelimiter}
 use Rattle.mailbox.specs.Deliveries.{is_blocked, is_deliverable, outcome_at, outcome_by, outcomes_on}
 use Rattle.mailbox.proofs.ForAbove.{there_is}
-use Rattle.checked_text.specs.CheckedText.{CheckedInterchange, judged}
-use Rattle.night_writing.specs.Night.{judgements}
+use Rattle.set_answers.specs.CheckedText.{CheckedInterchange, judged}
+use Rattle.night_batches.specs.Night.{judgements}
 use Rattle.set_documents.specs.Documents.{DocumentValue, document_number}
 use Rattle.track_table.specs.declared.notes.GroupNotes.{GroupNotes}
 use Rattle.track_table.specs.declared.notes.Notes.{Notes}

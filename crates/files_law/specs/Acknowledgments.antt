@@ -4,11 +4,11 @@ use Rattle.count_numbers.specs.Num.{num}
 use Rattle.partner_setup.specs.declared.partner.Partner.{Partner}
 use Rattle.partner_setup.specs.Envelopes.{envelope_to}
 use Rattle.partner_setup.specs.Setup.{SetupValue}
-use Rattle.checked_text.specs.Acknowledgments.{acknowledgment_text, acknowledgment_group_count}
-use Rattle.checked_text.specs.CheckedText.{CheckedInterchange, acknowledged_to, acknowledgment_of}
-use Rattle.checked_text.specs.Pairs.{AreAllPairs}
-use Rattle.checked_text.specs.Settled.{settled_entries}
-use Rattle.night_writing.specs.Night.{IsKnown}
+use Rattle.set_answers.specs.Acknowledgments.{acknowledgment_text, acknowledgment_group_count}
+use Rattle.set_answers.specs.CheckedText.{CheckedInterchange, acknowledged_to, acknowledgment_of}
+use Rattle.set_answers.specs.Pairs.{AreAllPairs}
+use Rattle.set_answers.specs.Settled.{settled_entries}
+use Rattle.night_batches.specs.Night.{IsKnown}
 use Rattle.night_law.specs.Quotable.{AreQuotable}
 use Rattle.files_law.specs.Files.{HasInterchanges}
 

@@ -2,15 +2,16 @@
 use Rattle.std.specs.Prelude.{◌≡◌, ◌⊎◌, ℕ, ◌+◌, List, [], ◌∷◌, ◌++◌, map, length, Option, Some, None, codes, decimal, slice_get}
 use Rattle.std.specs.Prelude.{slice_index_or, if◌then◌else◌}
 use Rattle.std.specs.List.{flat_map}
+use Rattle.csv_fields.specs.declared.columns.TheConstants as column
 use Rattle.x12_bytes.specs.Header.{field_of}
 use Rattle.x12_segs.specs.Words.{element_of}
 use Rattle.partner_setup.specs.declared.partner.Partner.{Partner}
 use Rattle.partner_setup.specs.Setup.{SetupValue}
-use Rattle.judged_text.specs.Judged.{JudgedValue, PlacedValue, is_refused, sets_of}
+use Rattle.answered_sets.specs.Judged.{JudgedValue, PlacedValue, is_refused, sets_of}
 use Rattle.mailbox.specs.Accounted.{receivers_of}
 use Rattle.mailbox.specs.Deliveries.{is_deliverable}
-use Rattle.checked_text.specs.CheckedText.{CheckedInterchange}
-use Rattle.night_writing.specs.Night.{IsKnown, judgements}
+use Rattle.set_answers.specs.CheckedText.{CheckedInterchange}
+use Rattle.night_batches.specs.Night.{IsKnown, judgements}
 use Rattle.csv_fields.specs.Csv.{table_text}
 use Rattle.track_table.specs.Cells.{column_names}
 use Rattle.track_table.specs.declared.track.Track.{Track}
@@ -49,25 +50,25 @@ abbrev pub field : Row → ℕ → List ℕ
 field row k = slice_index_or row k []
 
 abbrev pub outcome_in : Row → List ℕ
-outcome_in row = field row 18
+outcome_in row = field row column.OUTCOME
 
 abbrev pub receiver_in : Row → List ℕ
-receiver_in row = field row 21
+receiver_in row = field row column.RECEIVER
 
 -- a row names interchange n: its number, where it begins, ISA13
 pub record NamesInterchange (row : Row) (n : ℕ) (x : JudgedValue) : Type 0 where
-  pub columns : length row ≡ 25
-  pub number : field row 0 ≡ decimal n
-  pub offset : field row 1 ≡ decimal x.interchange.start
-  pub isa13 : field row 3 ≡ field_of x.interchange.header 13
+  pub columns : length row ≡ column.COLUMNS
+  pub number : field row column.INTERCHANGE ≡ decimal n
+  pub offset : field row column.OFFSET ≡ decimal x.interchange.start
+  pub isa13 : field row column.ISA13 ≡ field_of x.interchange.header 13
 
 -- and a set of it: GS01 and GS06 of its group, ST01, ST02
 pub record NamesSet (row : Row) (n : ℕ) (p : PlacedValue) : Type 0 where
   pub interchange : NamesInterchange row n p.interchange
-  pub gs01 : field row 6 ≡ element_of p.group.header 1
-  pub gs06 : field row 7 ≡ element_of p.group.header 6
-  pub st01 : field row 12 ≡ element_of p.set.header 1
-  pub st02 : field row 13 ≡ element_of p.set.header 2
+  pub gs01 : field row column.GS01 ≡ element_of p.group.header 1
+  pub gs06 : field row column.GS06 ≡ element_of p.group.header 6
+  pub st01 : field row column.ST01 ≡ element_of p.set.header 1
+  pub st02 : field row column.ST02 ≡ element_of p.set.header 2
 
 -- it is for a receiver: it has its name, and says that the set is delivered to it, or held for one of its delimiters
 pub record IsForReceiver (setup : SetupValue) (row : Row) (to : ℕ) : Type 0 where

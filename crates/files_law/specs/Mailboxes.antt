@@ -6,9 +6,9 @@ use Rattle.partner_setup.specs.declared.partner.Partner.{Partner}
 use Rattle.partner_setup.specs.Setup.{SetupValue}
 use Rattle.mailbox.specs.Mailbox.{delivered_text}
 use Rattle.mailbox.specs.Numbered.{NumberedValue, groups_of, numbered_from}
-use Rattle.checked_text.specs.CheckedText.{CheckedInterchange, acknowledged_to, groups_to}
-use Rattle.checked_text.specs.Pairs.{AreAllPairs}
-use Rattle.night_writing.specs.Night.{IsKnown, sets_to}
+use Rattle.set_answers.specs.CheckedText.{CheckedInterchange, acknowledged_to, groups_to}
+use Rattle.set_answers.specs.Pairs.{AreAllPairs}
+use Rattle.night_batches.specs.Night.{IsKnown, sets_to}
 use Rattle.files_law.specs.Files.{HasInterchanges}
 use Rattle.files_law.specs.Written.{NoInnerHeads}
 

@@ -4,11 +4,12 @@ use Rattle.std.specs.Prelude.{if◌then◌else◌}
 use Rattle.std.specs.Str.{bytes_eq}
 use Rattle.partner_setup.specs.declared.partner.Partner.{Partner}
 use Rattle.partner_setup.specs.Setup.{SetupValue}
-use Rattle.judged_text.specs.Judged.{PlacedValue}
-use Rattle.checked_text.specs.CheckedText.{CheckedInterchange}
-use Rattle.checked_text.specs.Pairs.{AreAllPairs}
-use Rattle.night_writing.specs.Night.{IsKnown, judgements, sets_to}
+use Rattle.answered_sets.specs.Judged.{PlacedValue}
+use Rattle.set_answers.specs.CheckedText.{CheckedInterchange}
+use Rattle.set_answers.specs.Pairs.{AreAllPairs}
+use Rattle.night_batches.specs.Night.{IsKnown, judgements, sets_to}
 use Rattle.csv_fields.specs.Csv.{table_text}
+use Rattle.csv_fields.specs.declared.columns.TheConstants.{RECEIVER_ISA13}
 use Rattle.track_table.specs.Cells.{column_names}
 use Rattle.track_table.specs.declared.track.Track.{Track}
 use Rattle.files_law.specs.Entries.{AreRowsOf, Entry, Row, entries_from, outcome_in}
@@ -28,7 +29,9 @@ is_place place (Some to) = to == place
 abbrev pub delivery_of : (place : ℕ) → Row → Entry → List Delivery
 delivery_of place row (OfRefused n x) = []
 delivery_of place row (OfSet n p receiver) =
-    if is_place place receiver && bytes_eq (outcome_in row) (codes "delivered") then record { set = p; numbers = drop 22 row } ∷ [] else []
+    if is_place place receiver && bytes_eq (outcome_in row) (codes "delivered") then
+    record { set = p; numbers = drop RECEIVER_ISA13 row } ∷ []
+    else []
 
 abbrev pub deliveries_to : (place : ℕ) → List Row → List Entry → List Delivery
 deliveries_to place [] es = []

@@ -2,8 +2,8 @@ ghost use Rattle.std.specs.Prelude.{ℕ, List};
 ghost use Rattle.moment.specs.Moment.{IsMoment};
 ghost use Rattle.partner_setup.specs.Setup.{SetupValue};
 ghost use Rattle.partner_setup.specs.Sound.{IsSoundSetup};
-ghost use Rattle.night_writing.specs.declared.night.Night.{Night};
-ghost use Rattle.night_writing.specs.Night.{IsNight};
+ghost use Rattle.night_batches.specs.declared.night.Night.{Night};
+ghost use Rattle.night_batches.specs.Night.{IsNight};
 ghost use Rattle.files_law.specs.Acknowledgments.{AreAcknowledgmentsRead};
 ghost use Rattle.files_law.specs.Mailboxes.{AreMailboxesRead};
 

@@ -13,7 +13,7 @@ use Rattle.gather_files.specs.declared.cause.Cause.{Cause}
 use Rattle.gather_files.specs.declared.gather.Gathered.{Gathered}
 use Rattle.gather_files.specs.declared.gather.Gathered.TheVariants as gathered
 use Rattle.gather_files.specs.declared.gather.Taken.{Taken}
-use Rattle.night_ends.proofs.ForAbove.{writes_on}
+use Rattle.system_io.proofs.ForAbove.{writes_on}
 use Rattle.gather_command.specs.Lines.{line_of_file}
 use Rattle.gather_command.specs.Members.{AddsFile, AreGathered, PutsFile, IsMember, IsOutcome, Member, bytes_of, lines_of, no_total}
 use Rattle.gather_command.specs.Members.{total_from, total_with}

@@ -1,7 +1,7 @@
 -- The command line of gathering (own), read as clap's definitions say: the file that is made, and the files that are gathered.
 use Rattle.std.specs.Prelude.{◌≡◌, List, map, Option, Some, None, true, codes}
 use Rattle.clap.specs.Words.{App, Text, takes, with_rule}
-use Rattle.night_ends.specs.Words.{or_none}
+use Rattle.system_io.specs.Words.{or_none}
 use Rattle.program_frame.specs.Arguments.{program, value_in, values_in, word, words}
 use Rattle.program_frame.specs.Matching.{AsksForText}
 use Rattle.gather_command.specs.declared.command.Asked.{Asked}

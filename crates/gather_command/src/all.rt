@@ -13,11 +13,11 @@ use crate::part::Part;
 use crate::total::{Total, is_over, no_total, with_file};
 use file_names::is_not_utf_8;
 use gather_files::{Gathered, gather_file};
-use night_ends::{Opened, Reader, open_at};
 use std::alloc::Global;
 use std::fs;
 use std::io::{Read, Write};
 use std::rt::Files;
+use system_io::{Opened, Reader, open_at};
 
 /// How many bytes of a file are read before it is written on.
 const WINDOW: usize = 1_048_576;

@@ -1,15 +1,15 @@
 ghost use Rattle.std.specs.Prelude.{◌≡◌, map, IfOk, IfErr};
 ghost use Rattle.clap.specs.Words.{app_of, first_value, found_of};
-ghost use Rattle.night_ends.specs.Words.{values_found};
+ghost use Rattle.system_io.specs.Words.{values_found};
 ghost use Rattle.program_frame.specs.Mistake.{IsUsage};
 ghost use Rattle.gather_command.specs.CommandLine.{IsAsked, IsCommandLine, IsGiven, NamesNone, gather_app};
 
 use clap::{ArgMatches, Command};
 use hub_kinds::copy_text;
-use night_ends::{texts_given, with_argument};
 use program_frame::{Matched, Mistake, match_words, program, word, words};
 use std::alloc::{AllocError, Global};
 use std::convert::AsStr;
+use system_io::{texts_given, with_argument};
 
 /// The name of the program.
 pub const PROGRAM: &str = "nighthub_gather";

@@ -7,11 +7,11 @@ ghost use Rattle.gather_command.specs.Failure.{IsMemoryOr, after_path, before_pa
 use file_names::print_shown;
 use gather_files::GatherFault;
 use hub_kinds::NoMemory;
-use night_ends::print_text;
 use program_frame::Reported;
 use std::alloc::{AllocError, Global};
 use std::io;
 use std::io::Write;
+use system_io::print_text;
 
 /// Why a run failed.
 #[derive(Clone, Copy, Debug, PartialEq, Eq)]

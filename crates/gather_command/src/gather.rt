@@ -1,5 +1,5 @@
 ghost use Rattle.std.specs.Prelude.{◌≡◌, ◌≢◌, ◌≤◌, ◌⊎◌, IfErr, IfOk, IsErrOf, IsOk, Ok, false, map, true};
-ghost use Rattle.night_ends.specs.Paths.{AsksForNew};
+ghost use Rattle.system_io.specs.Paths.{AsksForNew};
 ghost use Rattle.gather_command.specs.CommandLine.{IsCommandLine};
 ghost use Rattle.gather_command.specs.Failure.{IsStatus};
 ghost use Rattle.gather_command.specs.Outcome.{IsMade, IsOutcome, IsPrinted, NamesOut, paths_of, status_by};
@@ -9,13 +9,13 @@ use crate::command::{Asked, Job, PROGRAM, read_words};
 use crate::failure::Failure;
 use crate::part::PartFile;
 use crate::total::{Total, append_total};
-use night_ends::{Absent, Created, Looked, Presence, create_new_at, look_at};
 use program_frame::print_out;
 use std::convert::AsStr;
 use std::fs::OpenFile;
 use std::io::{ErrorKind, Seek, Write};
 use std::rt::Files;
 use std::{fs, io};
+use system_io::{Absent, Created, Looked, Presence, create_new_at, look_at};
 
 /// Runs the program on these arguments, without its name, and gives its exit status: 0 or 1 where it has made the file and printed a line
 /// for each file, or 0 where it printed a text that was asked for; otherwise the status of the failure whose line it has printed on `err`.

@@ -6,8 +6,8 @@ use Rattle.std.proofs.lemmas.List.{append_assoc, append-nil, length-append, leng
 use Rattle.std.proofs.lemmas.List.Elements.{All-cons, All-head, All-nil, All-tail}
 use Rattle.env_index.specs.Words.{ChainFrom, Extent}
 use Rattle.env_index.proofs.ForAbove.{chain_from_is_one}
-use Rattle.batch_cut.specs.Batches.{ChainUpTo}
-use Rattle.batch_cut.proofs.ForAbove.{chain_ends, end_within, head_more}
+use Rattle.whole_interchanges.specs.Batches.{ChainUpTo}
+use Rattle.whole_interchanges.proofs.ForAbove.{chain_ends, end_within, head_more}
 use Rattle.night_definition.specs.Interchanges.{Interchange, Text, text_of}
 use Rattle.night_equal.proofs.ForAbove.{heads}
 use Rattle.gather_files.specs.Gathered.{GoesUpTo, HoldsInterchanges, KeepsToItself, MayFollow}

@@ -17,10 +17,10 @@ use Rattle.x12_segs.specs.Words.{Seg, segs_from, rest_from}
 use Rattle.env_index.specs.Ends.{MayEnd, IsLeastEnd, IsPartAtHeader}
 use Rattle.env_index.specs.Words.{Extent, ChainFrom, Reach, reach_at, reach_from}
 use Rattle.env_index.proofs.ForAbove.{least_end, head_letter, head_within}
-use Rattle.batch_cut.specs.Begun.{may_begin}
-use Rattle.batch_cut.specs.Batches.{ChainUpTo}
-use Rattle.batch_cut.proofs.ForAbove.{end_within, Leads, first_is, first_start, leads_to_head, head_fits, head_more, header_kept}
-use Rattle.batch_cut.proofs.ForAbove.{none_begins, IsSplit, first_byte, split_at, Clears, same_reach}
+use Rattle.whole_interchanges.specs.Begun.{may_begin}
+use Rattle.whole_interchanges.specs.Batches.{ChainUpTo}
+use Rattle.whole_interchanges.proofs.ForAbove.{end_within, Leads, first_is, first_start, leads_to_head, head_fits, head_more, header_kept}
+use Rattle.whole_interchanges.proofs.ForAbove.{none_begins, IsSplit, first_byte, split_at, Clears, same_reach}
 use Rattle.gather_files.specs.Gathered.{IsClosed}
 
 -- a terminator is no letter

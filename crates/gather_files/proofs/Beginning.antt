@@ -5,7 +5,7 @@ use Rattle.std.specs.Io.KnownBytes.{Appends}
 use Rattle.std.proofs.lemmas.List.{append-nil, length-append, take-append-le, take_at}
 use Rattle.x12_bytes.specs.Header.{header_at, terminator_of}
 use Rattle.x12_bytes.specs.HeaderTest.{is_head}
-use Rattle.batch_cut.proofs.ForAbove.{head_kept}
+use Rattle.whole_interchanges.proofs.ForAbove.{head_kept}
 use Rattle.night_equal.proofs.ForAbove.{heads}
 use Rattle.stream_read.specs.Held.{HeldValue}
 use Rattle.gather_files.specs.Causes.{cause_by, cause_of}

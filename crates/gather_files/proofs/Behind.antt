@@ -7,10 +7,10 @@ use Rattle.std.proofs.lemmas.List.Elements.{All-append, All-cons, All-head, All-
 use Rattle.x12_bytes.specs.Header.{header_at, terminator_of}
 use Rattle.x12_bytes.specs.HeaderTest.{is_head}
 use Rattle.env_index.proofs.ForAbove.{head_within}
-use Rattle.batch_cut.proofs.ForAbove.{head_more, header_kept}
+use Rattle.whole_interchanges.proofs.ForAbove.{head_more, header_kept}
 use Rattle.night_equal.proofs.ForAbove.{heads}
-use Rattle.batch_cut.specs.Scouting.{IsInside}
-use Rattle.batch_cut.specs.declared.scout.Inside.{Inside}
+use Rattle.whole_interchanges.specs.Scouting.{IsInside}
+use Rattle.whole_interchanges.specs.declared.scout.Inside.{Inside}
 use Rattle.gather_files.specs.ClosingBytes.{blanks}
 use Rattle.gather_files.specs.Closing.{IsOwnTerminator, PutsBehind}
 

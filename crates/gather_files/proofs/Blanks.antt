@@ -10,7 +10,7 @@ use Rattle.std.proofs.lemmas.List.{get_or-drop, get_or-take, get_or-append-add, 
 use Rattle.std.proofs.lemmas.List.{length-drop, length-replicate}
 use Rattle.x12_bytes.specs.Bytes.{may_separate}
 use Rattle.x12_bytes.specs.Header.{element_separator_of, component_separator_of, field_of, separator_place}
-use Rattle.batch_cut.specs.Begun.{is_field_begun, are_fields_begun, are_delims_begun, is_begun, may_begin}
+use Rattle.whole_interchanges.specs.Begun.{is_field_begun, are_fields_begun, are_delims_begun, is_begun, may_begin}
 use Rattle.gather_files.specs.ClosingBytes.{blanked, blanks}
 
 field_at : (b : List ℕ) (n k : ℕ) → k < n → are_fields_begun b n ≡ true → is_field_begun b (k + 1) ≡ true

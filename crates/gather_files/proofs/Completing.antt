@@ -7,8 +7,9 @@ use Rattle.std.proofs.lemmas.Bool.{true_from_ne_false}
 use Rattle.std.proofs.lemmas.List.{append_assoc, drop-append-le, length-append, length-drop, take-append-drop, take_all, take-take}
 use Rattle.x12_bytes.specs.Header.{header_at}
 use Rattle.x12_bytes.specs.HeaderTest.{is_head, is_header}
-use Rattle.batch_cut.specs.Begun.{are_fields_begun, are_delims_begun, is_begun, may_begin}
-use Rattle.batch_cut.proofs.ForAbove.{IsBegun, IsOpen, begun_parts, header_done, header_size, is_absent, mixed, mixed_is, none_behind, rest}
+use Rattle.whole_interchanges.specs.Begun.{are_fields_begun, are_delims_begun, is_begun, may_begin}
+use Rattle.whole_interchanges.proofs.ForAbove.{IsBegun, IsOpen, begun_parts, header_done, header_size, is_absent, mixed, mixed_is}
+use Rattle.whole_interchanges.proofs.ForAbove.{none_behind, rest}
 use Rattle.night_equal.proofs.ForAbove.{heads}
 use Rattle.env_index.proofs.ForAbove.{head_within}
 use Rattle.gather_files.specs.Unfinished.{MayBegin}

@@ -12,7 +12,7 @@ use Rattle.x12_segs.specs.Words.{Seg, rest_from}
 use Rattle.x12_segs.proofs.ForAbove.{IsCut, cut_found, rest_from-found, rest_from-none}
 use Rattle.env_index.specs.Words.{Chain, ChainFrom, Extent}
 use Rattle.env_index.proofs.ForAbove.{head_within}
-use Rattle.batch_cut.proofs.ForAbove.{IsSplit, first_byte, from_rest, split_at}
+use Rattle.whole_interchanges.proofs.ForAbove.{IsSplit, first_byte, from_rest, split_at}
 use Rattle.gather_files.specs.Gathered.{IsClosed, IsClosedFile}
 use Rattle.gather_files.specs.ClosingBytes.{terminated}
 

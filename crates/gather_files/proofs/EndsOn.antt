@@ -7,11 +7,12 @@ use Rattle.x12_bytes.specs.HeaderTest.{is_head}
 use Rattle.x12_bytes.specs.declared.delims.Delims.{Delims}
 use Rattle.x12_segs.specs.Words.{Seg, SegValue, kind_of, moved_by, rest_from, segs_from, view_of}
 use Rattle.env_index.specs.Words.{Extent, behind, ends_interchange}
-use Rattle.batch_cut.specs.Begun.{is_begun, may_begin}
-use Rattle.batch_cut.specs.Batches.{ChainUpTo, end_by, end_from, whole_end}
-use Rattle.batch_cut.specs.Moved.{moved_extent, moved_view}
-use Rattle.batch_cut.proofs.ForAbove.{chain_joined, chain_past, drop_past, head_past, header_past, kind_moved, rest_past, segs_past}
-use Rattle.batch_cut.proofs.ForAbove.{views_moved}
+use Rattle.whole_interchanges.specs.Begun.{is_begun, may_begin}
+use Rattle.whole_interchanges.specs.Batches.{ChainUpTo, end_by, end_from, whole_end}
+use Rattle.whole_interchanges.specs.Moved.{moved_extent, moved_view}
+use Rattle.whole_interchanges.proofs.ForAbove.{chain_joined, chain_past, drop_past, head_past, header_past, kind_moved, rest_past}
+use Rattle.whole_interchanges.proofs.ForAbove.{segs_past}
+use Rattle.whole_interchanges.proofs.ForAbove.{views_moved}
 use Rattle.gather_files.specs.Gathered.{GoesUpTo, IsWholeBefore}
 use Rattle.gather_files.proofs.Parts.{goes_up}
 use Rattle.gather_files.specs.EndsByLayers.{EndsByLayers, EndsInHeaderByLayers, EndsOpenByLayers}

@@ -9,7 +9,7 @@ use Rattle.x12_bytes.specs.Bytes.{is_line_end}
 use Rattle.x12_bytes.specs.Header.{terminator_of}
 use Rattle.x12_bytes.specs.HeaderTest.{is_head}
 use Rattle.env_index.proofs.ForAbove.{head_within}
-use Rattle.batch_cut.proofs.ForAbove.{head_kept, head_more, header_past}
+use Rattle.whole_interchanges.proofs.ForAbove.{head_kept, head_more, header_past}
 use Rattle.gather_files.proofs.Onward.{head_moved}
 use Rattle.stream_read.specs.Held.{HeldValue}
 use Rattle.gather_files.specs.Gathered.{HoldsInterchanges, IsWholeBefore, StandsApart}

@@ -6,9 +6,9 @@ use Rattle.std.proofs.lemmas.List.{append_assoc, append-nil, length-append, take
 use Rattle.std.proofs.lemmas.List.Elements.{All-cons, All-head, All-nil, All-tail}
 use Rattle.x12_bytes.specs.HeaderTest.{is_head}
 use Rattle.env_index.specs.Words.{Chain, ChainFrom, Extent, IndexEntry, IsIndex, extents_of}
-use Rattle.batch_cut.specs.Begun.{may_begin}
-use Rattle.batch_cut.specs.Moved.{IsIndexUpTo, moved_entry}
-use Rattle.batch_cut.proofs.ForAbove.{head_more, head_past, ends, starts, steps}
+use Rattle.whole_interchanges.specs.Begun.{may_begin}
+use Rattle.whole_interchanges.specs.Moved.{IsIndexUpTo, moved_entry}
+use Rattle.whole_interchanges.proofs.ForAbove.{head_more, head_past, ends, starts, steps}
 use Rattle.gather_files.specs.Gathered.{File, IsClosed, IsFile, IsKept, KeepsToItself, MayFollow, StandsApart, entries_behind}
 use Rattle.gather_files.specs.Gathered.{gathered, gathered_index, outside_of}
 use Rattle.gather_files.proofs.Apart.{chain_apart}

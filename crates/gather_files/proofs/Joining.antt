@@ -10,8 +10,8 @@ use Rattle.x12_bytes.specs.declared.delims.Delims.{Delims}
 use Rattle.env_index.specs.Words.{Extent}
 use Rattle.env_index.specs.Words as then
 use Rattle.env_index.proofs.ForAbove.{head_within}
-use Rattle.batch_cut.specs.Batches.{ChainUpTo}
-use Rattle.batch_cut.proofs.ForAbove.{Clears, end_behind, head_kept, header_kept, same_reach}
+use Rattle.whole_interchanges.specs.Batches.{ChainUpTo}
+use Rattle.whole_interchanges.proofs.ForAbove.{Clears, end_behind, head_kept, header_kept, same_reach}
 use Rattle.night_definition.specs.Header.{delims_of, is_head}
 use Rattle.night_definition.specs.Envelopes.{in_body, read}
 use Rattle.night_definition.specs.Interchanges.{Interchange, Reach, Text, found_at, found_from, interchange_at, is_filler}

@@ -11,13 +11,13 @@ use Rattle.x12_bytes.specs.declared.delims.Delims.{Delims}
 use Rattle.x12_segs.specs.Words.{Seg, segs_from, rest_from, view_of, kind_of}
 use Rattle.env_index.specs.Words.{Extent, ChainFrom, ends_interchange, reach_at}
 use Rattle.env_index.proofs.ForAbove.{head_letter, head_within}
-use Rattle.batch_cut.specs.Begun.{may_begin}
-use Rattle.batch_cut.specs.Batches.{ChainUpTo, end_by, end_from, whole_end}
-use Rattle.batch_cut.proofs.ForAbove.{chain_joined, chain_read, chain_up_to_end, end_now, Leads, first_is, first_start, head_more}
-use Rattle.batch_cut.proofs.ForAbove.{header_kept, head_past, first_byte}
-use Rattle.batch_cut.specs.Open.{IsOpen}
-use Rattle.batch_cut.specs.Scouting.{IsInside}
-use Rattle.batch_cut.specs.declared.scout.Inside.{Inside}
+use Rattle.whole_interchanges.specs.Begun.{may_begin}
+use Rattle.whole_interchanges.specs.Batches.{ChainUpTo, end_by, end_from, whole_end}
+use Rattle.whole_interchanges.proofs.ForAbove.{chain_joined, chain_read, chain_up_to_end, end_now, Leads, first_is, first_start, head_more}
+use Rattle.whole_interchanges.proofs.ForAbove.{header_kept, head_past, first_byte}
+use Rattle.whole_interchanges.specs.Open.{IsOpen}
+use Rattle.whole_interchanges.specs.Scouting.{IsInside}
+use Rattle.whole_interchanges.specs.declared.scout.Inside.{Inside}
 use Rattle.gather_files.specs.Gathered.{HoldsInterchanges, MayFollow}
 use Rattle.gather_files.proofs.Apart.{head_no_letter}
 

@@ -14,7 +14,7 @@ use Rattle.x12_segs.specs.Words.{rest_from, rest_of}
 use Rattle.x12_segs.proofs.ForAbove.{span-split, span_of}
 use Rattle.env_index.specs.Words.{ChainFrom}
 use Rattle.env_index.proofs.ForAbove.{chain_from_is_one, head_within}
-use Rattle.batch_cut.specs.Begun.{may_begin}
+use Rattle.whole_interchanges.specs.Begun.{may_begin}
 use Rattle.night_definition.specs.Header.{divided}
 use Rattle.night_definition.specs.Segments.{is_blank}
 use Rattle.night_definition.specs.Interchanges.{Interchange, interchange_at, text_of}

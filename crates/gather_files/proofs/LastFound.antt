@@ -9,12 +9,12 @@ use Rattle.x12_bytes.specs.HeaderTest.{is_head}
 use Rattle.x12_bytes.specs.declared.delims.Delims.{Delims}
 use Rattle.x12_segs.specs.Words.{seg_at, view_of, kind_of}
 use Rattle.env_index.specs.Words.{ends_interchange}
-use Rattle.batch_cut.specs.Begun.{may_begin}
-use Rattle.batch_cut.specs.Batches.{end_from}
-use Rattle.batch_cut.proofs.ForAbove.{first_byte}
-use Rattle.batch_cut.specs.Open.{GoesOn, IsOpen}
-use Rattle.batch_cut.specs.Steps.{Waits}
-use Rattle.batch_cut.proofs.ForAbove.{ends_here, goes_now, lead_found, lead_stops, on_empty, passes_on, waits_unended}
+use Rattle.whole_interchanges.specs.Begun.{may_begin}
+use Rattle.whole_interchanges.specs.Batches.{end_from}
+use Rattle.whole_interchanges.proofs.ForAbove.{first_byte}
+use Rattle.whole_interchanges.specs.Open.{GoesOn, IsOpen}
+use Rattle.whole_interchanges.specs.Steps.{Waits}
+use Rattle.whole_interchanges.proofs.ForAbove.{ends_here, goes_now, lead_found, lead_stops, on_empty, passes_on, waits_unended}
 
 -- where an interchange's last part begins, if no header can turn out to begin in what is read
 pub record HasLast (read : List ℕ) (d : Delims) (at : ℕ) : Type 0 where

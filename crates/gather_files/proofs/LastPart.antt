@@ -9,11 +9,11 @@ use Rattle.x12_bytes.specs.HeaderTest.{is_head}
 use Rattle.x12_bytes.specs.declared.delims.Delims.{Delims}
 use Rattle.x12_segs.specs.Words.{Seg, seg_at, view_of, kind_of}
 use Rattle.env_index.specs.Words.{ends_interchange}
-use Rattle.batch_cut.specs.Begun.{may_begin}
-use Rattle.batch_cut.specs.Batches.{end_from}
-use Rattle.batch_cut.proofs.ForAbove.{none_behind}
-use Rattle.batch_cut.specs.Open.{GoesOn}
-use Rattle.batch_cut.proofs.ForAbove.{IsPart, closed_stays, end_at_segment, part_stays, passes_empty}
+use Rattle.whole_interchanges.specs.Begun.{may_begin}
+use Rattle.whole_interchanges.specs.Batches.{end_from}
+use Rattle.whole_interchanges.proofs.ForAbove.{none_behind}
+use Rattle.whole_interchanges.specs.Open.{GoesOn}
+use Rattle.whole_interchanges.proofs.ForAbove.{IsPart, closed_stays, end_at_segment, part_stays, passes_empty}
 
 -- no header begins at a place, nor can one turn out to, and it holds no CR and no LF
 pub record IsInner (read : List ℕ) (lead : ℕ) : Type 0 where

@@ -6,7 +6,7 @@ use Rattle.std.specs.List.{prefix_len}
 use Rattle.std.proofs.lemmas.Bool.{cases_lt, le-ltb, lt-ltb}
 use Rattle.std.proofs.lemmas.List.{length-append}
 use Rattle.x12_bytes.specs.declared.delims.Delims.{Delims}
-use Rattle.batch_cut.proofs.ForAbove.{drop_past, head_past, header_past}
+use Rattle.whole_interchanges.proofs.ForAbove.{drop_past, head_past, header_past}
 use Rattle.night_definition.specs.Header.{delims_of, divided, header_at, is_head}
 use Rattle.night_definition.specs.Segments.{Kind, Segment, ge, gs, iea, is_blank, is_line_end, kind_of, other, se, segment_of, st, ta1}
 use Rattle.night_definition.specs.Envelopes.{Read, Where, in_body, in_group, in_set, read, read_one, with_ge, with_group, with_inner}

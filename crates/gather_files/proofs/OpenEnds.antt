@@ -5,9 +5,9 @@ use Rattle.std.proofs.Common.{subst, arith}
 use Rattle.std.proofs.lemmas.List.{length-drop, take_all}
 use Rattle.x12_bytes.specs.Header.{header_at, header_delims}
 use Rattle.x12_bytes.specs.declared.delims.Delims.{Delims}
-use Rattle.batch_cut.specs.Scouting.{Advances, IsInside, IsLeft, Stands}
-use Rattle.batch_cut.specs.declared.scout.Advanced.{Advanced}
-use Rattle.batch_cut.specs.declared.scout.Inside.{Inside}
+use Rattle.whole_interchanges.specs.Scouting.{Advances, IsInside, IsLeft, Stands}
+use Rattle.whole_interchanges.specs.declared.scout.Advanced.{Advanced}
+use Rattle.whole_interchanges.specs.declared.scout.Inside.{Inside}
 use Rattle.gather_files.specs.Closing.{IsUntouched, StaysApart}
 use Rattle.gather_files.specs.EndsByLayers.{EndsByLayers, EndsOpenByLayers}
 use Rattle.gather_files.specs.Trailer.{is_trailer_by_another, last_segment, open_end}

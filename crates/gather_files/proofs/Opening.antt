@@ -13,9 +13,9 @@ use Rattle.x12_segs.specs.Words.{Seg, kind_of, rest_from, segs_from, view_of}
 use Rattle.x12_segs.proofs.ForAbove.{IsFirstSeg, StandInOrder, first_seg, segs_in_order}
 use Rattle.env_index.specs.Words.{IsLeastEnd, MayEnd, Reach, behind, ends_interchange, onto_reach, reach_at, reach_from, reach_of}
 use Rattle.env_index.proofs.ForAbove.{head_within, least_end}
-use Rattle.batch_cut.specs.Batches.{ChainUpTo, WholeUpTo, end_by, whole_end}
-use Rattle.batch_cut.specs.Begun.{may_begin}
-use Rattle.batch_cut.proofs.ForAbove.{IsSplit, end_now, end_within, header_kept, split_at, whole_chain}
+use Rattle.whole_interchanges.specs.Batches.{ChainUpTo, WholeUpTo, end_by, whole_end}
+use Rattle.whole_interchanges.specs.Begun.{may_begin}
+use Rattle.whole_interchanges.proofs.ForAbove.{IsSplit, end_now, end_within, header_kept, split_at, whole_chain}
 use Rattle.night_definition.specs.Header as room
 use Rattle.night_equal.proofs.ForAbove.{heads}
 use Rattle.gather_files.specs.Unfinished.{IsOpen}

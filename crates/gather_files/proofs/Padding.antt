@@ -10,7 +10,7 @@ use Rattle.x12_bytes.specs.Bytes.{is_line_end}
 use Rattle.x12_bytes.specs.Header.{header_at, terminator_of}
 use Rattle.x12_bytes.specs.HeaderTest.{is_head}
 use Rattle.env_index.proofs.ForAbove.{head_within}
-use Rattle.batch_cut.proofs.ForAbove.{head_kept}
+use Rattle.whole_interchanges.proofs.ForAbove.{head_kept}
 use Rattle.gather_files.specs.Gathering.{is_end}
 use Rattle.gather_files.specs.Lead.{is_padding, pads, unpadded}
 use Rattle.gather_files.proofs.Ends.{looked, passes, stops, suffix_all, suffix_some}

@@ -2,9 +2,9 @@
 use Rattle.std.proofs.Common.{◌≡◌, ℕ, ◌+◌, ◌≤◌, List, ◌++◌, length, take, drop, map, refl, sym, ap, subst, ◌∙◌, arith}
 use Rattle.std.proofs.lemmas.List.{append_assoc, length-append, length-map, length-take-le, take-append-drop}
 use Rattle.env_index.specs.Words.{Extent}
-use Rattle.batch_cut.specs.Batches.{ChainUpTo}
-use Rattle.batch_cut.specs.Moved.{moved_extent}
-use Rattle.batch_cut.proofs.ForAbove.{chain_joined, chain_past}
+use Rattle.whole_interchanges.specs.Batches.{ChainUpTo}
+use Rattle.whole_interchanges.specs.Moved.{moved_extent}
+use Rattle.whole_interchanges.proofs.ForAbove.{chain_joined, chain_past}
 use Rattle.gather_files.specs.Gathered.{GoesUpTo, HoldsInterchanges, IsWholeBefore, KeepsToItself, PassesInterchanges}
 
 -- so many interchanges up to an offset

@@ -8,12 +8,12 @@ use Rattle.std.specs.List.{suffix_len}
 use Rattle.x12_bytes.specs.Header.{header_at, terminator_of}
 use Rattle.x12_bytes.specs.HeaderTest.{is_head}
 use Rattle.env_index.proofs.ForAbove.{head_within}
-use Rattle.batch_cut.specs.Batches.{ChainUpTo}
-use Rattle.batch_cut.proofs.ForAbove.{head_more, header_kept}
-use Rattle.batch_cut.proofs.ForAbove.{stands_on}
-use Rattle.batch_cut.specs.Scouting.{Advances, Stands}
-use Rattle.batch_cut.specs.declared.scout.Advanced.{Advanced}
-use Rattle.batch_cut.specs.declared.scout.Inside.{Inside}
+use Rattle.whole_interchanges.specs.Batches.{ChainUpTo}
+use Rattle.whole_interchanges.proofs.ForAbove.{head_more, header_kept}
+use Rattle.whole_interchanges.proofs.ForAbove.{stands_on}
+use Rattle.whole_interchanges.specs.Scouting.{Advances, Stands}
+use Rattle.whole_interchanges.specs.declared.scout.Advanced.{Advanced}
+use Rattle.whole_interchanges.specs.declared.scout.Inside.{Inside}
 use Rattle.stream_read.specs.Held.{HasRead, HeldValue}
 use Rattle.stream_read.proofs.ForAbove.{consumes_on}
 use Rattle.gather_files.specs.Gathered.{IsWholeBefore, PassesInterchanges}

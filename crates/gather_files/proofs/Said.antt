@@ -6,9 +6,9 @@ use Rattle.std.proofs.lemmas.List.{append-nil, drop_at, length-append, length-ta
 use Rattle.x12_bytes.specs.Header.{header_at, header_delims}
 use Rattle.x12_bytes.specs.HeaderTest.{is_head}
 use Rattle.env_index.proofs.ForAbove.{head_within}
-use Rattle.batch_cut.specs.Batches.{whole_end}
-use Rattle.batch_cut.specs.Begun.{may_begin}
-use Rattle.batch_cut.proofs.ForAbove.{header_past}
+use Rattle.whole_interchanges.specs.Batches.{whole_end}
+use Rattle.whole_interchanges.specs.Begun.{may_begin}
+use Rattle.whole_interchanges.proofs.ForAbove.{header_past}
 use Rattle.night_equal.proofs.ForAbove.{heads}
 use Rattle.gather_files.specs.Gathered.{GoesUpTo}
 use Rattle.gather_files.specs.Apart.{IsComplete}

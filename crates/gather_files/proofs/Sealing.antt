@@ -13,13 +13,13 @@ use Rattle.x12_bytes.specs.declared.delims.Delims.{Delims}
 use Rattle.x12_segs.specs.Words.{seg_at, view_of, kind_of}
 use Rattle.env_index.specs.Words.{Extent, ends_interchange}
 use Rattle.env_index.proofs.ForAbove.{head_within}
-use Rattle.batch_cut.specs.Begun.{may_begin}
-use Rattle.batch_cut.specs.Batches.{ChainUpTo, end_from, whole_end}
-use Rattle.batch_cut.proofs.ForAbove.{chain_joined, chain_waits, none_behind, Leads, head_more, header_kept}
-use Rattle.batch_cut.specs.Open.{GoesOn}
-use Rattle.batch_cut.specs.Scouting.{IsInside}
-use Rattle.batch_cut.specs.declared.scout.Inside.{Inside}
-use Rattle.batch_cut.proofs.ForAbove.{goes_now, ends_at_head, one_whole}
+use Rattle.whole_interchanges.specs.Begun.{may_begin}
+use Rattle.whole_interchanges.specs.Batches.{ChainUpTo, end_from, whole_end}
+use Rattle.whole_interchanges.proofs.ForAbove.{chain_joined, chain_waits, none_behind, Leads, head_more, header_kept}
+use Rattle.whole_interchanges.specs.Open.{GoesOn}
+use Rattle.whole_interchanges.specs.Scouting.{IsInside}
+use Rattle.whole_interchanges.specs.declared.scout.Inside.{Inside}
+use Rattle.whole_interchanges.proofs.ForAbove.{goes_now, ends_at_head, one_whole}
 use Rattle.gather_files.specs.Gathered.{HoldsInterchanges}
 use Rattle.gather_files.specs.Closing.{IsLastSegment}
 use Rattle.gather_files.proofs.Keeps.{holds_inside}

@@ -15,15 +15,16 @@ use Rattle.x12_segs.specs.Words.{Seg, SegValue, kind_of, rest_from, segs_from, v
 use Rattle.x12_segs.proofs.ForAbove.{StandInOrder, segs_in_order, IsCut, cut_found, rest_from-found, rest_from-none}
 use Rattle.env_index.specs.Words.{Chain, Extent, Reach, behind, ends_interchange, reach_at, reach_of}
 use Rattle.env_index.proofs.ForAbove.{head_within, no_head_past}
-use Rattle.batch_cut.specs.Begun.{is_begun, may_begin}
-use Rattle.batch_cut.specs.Batches.{ChainUpTo, end_by, whole_end}
-use Rattle.batch_cut.specs.Moved.{moved_extent}
-use Rattle.batch_cut.proofs.ForAbove.{chain_ends, chain_joined, chain_on, chain_up_to_end, drop_past, header_past, rest_past, chain_past}
-use Rattle.batch_cut.proofs.ForAbove.{first_byte, from_rest, low_within, reach_goes_on}
-use Rattle.batch_cut.specs.Open.{IsAsFar, IsShort}
-use Rattle.batch_cut.specs.Scouting.{Advances, IsFarthest, IsInside, IsLeft, Stands}
-use Rattle.batch_cut.specs.declared.scout.Advanced.{Advanced}
-use Rattle.batch_cut.specs.declared.scout.Inside.{Inside}
+use Rattle.whole_interchanges.specs.Begun.{is_begun, may_begin}
+use Rattle.whole_interchanges.specs.Batches.{ChainUpTo, end_by, whole_end}
+use Rattle.whole_interchanges.specs.Moved.{moved_extent}
+use Rattle.whole_interchanges.proofs.ForAbove.{chain_ends, chain_joined, chain_on, chain_up_to_end, drop_past, header_past, rest_past}
+use Rattle.whole_interchanges.proofs.ForAbove.{chain_past}
+use Rattle.whole_interchanges.proofs.ForAbove.{first_byte, from_rest, low_within, reach_goes_on}
+use Rattle.whole_interchanges.specs.Open.{IsAsFar, IsShort}
+use Rattle.whole_interchanges.specs.Scouting.{Advances, IsFarthest, IsInside, IsLeft, Stands}
+use Rattle.whole_interchanges.specs.declared.scout.Advanced.{Advanced}
+use Rattle.whole_interchanges.specs.declared.scout.Inside.{Inside}
 use Rattle.gather_files.specs.Gathered.{IsClosed, IsClosedFile, IsWholeBefore, StandsApart, open_from}
 use Rattle.gather_files.specs.Closing.{IsHeldApart}
 use Rattle.gather_files.proofs.LastFound.{no_end}

@@ -10,7 +10,7 @@ use Rattle.x12_bytes.specs.HeaderTest as then_test
 use Rattle.env_index.specs.Words.{Chain, ChainFrom, Extent, IsNextHead}
 use Rattle.env_index.specs.Words as then
 use Rattle.env_index.proofs.ForAbove.{no_head_past}
-use Rattle.batch_cut.proofs.ForAbove.{end_behind}
+use Rattle.whole_interchanges.proofs.ForAbove.{end_behind}
 use Rattle.night_definition.specs.Header.{is_head}
 use Rattle.night_definition.specs.Interchanges.{Interchange, Text, found_at, found_from, interchange_at, is_filler, text_of, with_byte}
 use Rattle.night_equal.proofs.ForAbove.{heads}

@@ -4,7 +4,7 @@ use Rattle.std.specs.List.{All}
 use Rattle.memchr.specs.Find.{IsFirstByte, is_byte}
 use Rattle.x12_bytes.specs.HeaderTest as then_test
 use Rattle.x12_bytes.specs.declared.layout.TheConstants.{HEADER_LEN}
-use Rattle.batch_cut.specs.Begun.{may_begin}
+use Rattle.whole_interchanges.specs.Begun.{may_begin}
 use Rattle.gather_files.specs.Gathered.{HoldsInterchanges, IsClosedFile}
 use Rattle.night_definition.specs.Header.{delims_of, header_at, is_head}
 use Rattle.night_definition.specs.Segments.{is_line_end}

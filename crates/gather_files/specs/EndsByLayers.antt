@@ -2,8 +2,8 @@
 use Rattle.std.specs.Prelude.{ℕ, ◌≡◌, ◌<◌, ◌≤◌, ◌⊎◌, true, List, length, drop, None}
 use Rattle.x12_bytes.specs.Header.{header_at, header_delims}
 use Rattle.x12_bytes.specs.HeaderTest.{is_head}
-use Rattle.batch_cut.specs.Batches.{whole_end}
-use Rattle.batch_cut.specs.Begun.{may_begin}
+use Rattle.whole_interchanges.specs.Batches.{whole_end}
+use Rattle.whole_interchanges.specs.Begun.{may_begin}
 use Rattle.gather_files.specs.Gathered.{GoesUpTo}
 use Rattle.gather_files.specs.Trailer.{open_end}
 use Rattle.gather_files.specs.declared.gather.End.{End}

@@ -6,9 +6,9 @@ use Rattle.x12_bytes.specs.HeaderTest.{is_head}
 use Rattle.x12_bytes.specs.declared.layout.TheConstants.{HEADER_LEN}
 use Rattle.x12_segs.specs.Words.{rest_from}
 use Rattle.env_index.specs.Words.{Chain, Extent, IndexEntry, IndexValue, IsIndex}
-use Rattle.batch_cut.specs.Batches.{ChainUpTo}
-use Rattle.batch_cut.specs.Begun.{may_begin}
-use Rattle.batch_cut.specs.Moved.{moved_entry}
+use Rattle.whole_interchanges.specs.Batches.{ChainUpTo}
+use Rattle.whole_interchanges.specs.Begun.{may_begin}
+use Rattle.whole_interchanges.specs.Moved.{moved_entry}
 
 -- a file, and its index where it is read alone
 pub record File : Type 0 where

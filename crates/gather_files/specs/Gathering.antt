@@ -9,7 +9,7 @@ use Rattle.x12_bytes.specs.declared.layout.TheConstants.{HEADER_LEN}
 use Rattle.stream_read.specs.Held.{HeldValue}
 use Rattle.stream_read.specs.declared.held.StreamFault.{StreamFault}
 use Rattle.stream_read.specs.declared.held.StreamFault.TheVariants as stream
-use Rattle.batch_cut.specs.Scouting.{Stands}
+use Rattle.whole_interchanges.specs.Scouting.{Stands}
 use Rattle.gather_files.specs.Gathered.{HoldsInterchanges, IsWholeBefore, KeepsToItself, StandsApart}
 use Rattle.night_definition.specs.Header.{is_head}
 use Rattle.night_definition.specs.Interchanges.{text_of}

@@ -3,8 +3,8 @@ use Rattle.std.specs.Prelude.{◌≡◌, ◌↔◌, ℕ, ◌≤◌, true, Option
 use Rattle.std.specs.List.{All, flat_map}
 use Rattle.night_definition.specs.Header.{is_head}
 use Rattle.night_definition.specs.Interchanges.{text_of}
-use Rattle.batch_cut.specs.Batches.{whole_end}
-use Rattle.batch_cut.specs.Begun.{may_begin}
+use Rattle.whole_interchanges.specs.Batches.{whole_end}
+use Rattle.whole_interchanges.specs.Begun.{may_begin}
 use Rattle.gather_files.specs.Gathered.{GoesUpTo, HoldsInterchanges, KeepsToItself}
 use Rattle.gather_files.specs.Gathered as then
 use Rattle.gather_files.specs.Apart.{AreReadAlone, MayComeAfter, StandsAlone, text_of_files}

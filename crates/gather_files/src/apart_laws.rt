@@ -2,7 +2,7 @@ ghost use Rattle.std.specs.Prelude.{◌≡◌, ◌≤◌, ◌<◌, ◌==◌, ◌
 ghost use Rattle.std.specs.List.{All};
 ghost use Rattle.x12_bytes.specs.Header.{header_at, terminator_of};
 ghost use Rattle.env_index.specs.Words.{Chain, Extent, IsIndex};
-ghost use Rattle.batch_cut.specs.Begun.{may_begin};
+ghost use Rattle.whole_interchanges.specs.Begun.{may_begin};
 ghost use Rattle.gather_files.specs.ClosingBytes.{blanked, terminated};
 ghost use Rattle.gather_files.specs.Gathered.{File, HoldsInterchanges, IsClosedFile, IsFile, IsKept, IsWholeBefore, KeepsToItself};
 ghost use Rattle.gather_files.specs.Gathered.{PassesInterchanges, gathered, gathered_index};

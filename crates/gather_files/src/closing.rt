@@ -1,16 +1,16 @@
 ghost use Rattle.std.specs.Prelude.{◌≡◌, ◌≢◌, ◌≤◌, ℕ, IfOk, List, Some, true, length, take};
 ghost use Rattle.x12_bytes.specs.Bytes.{is_line_end};
-ghost use Rattle.batch_cut.specs.Scouting.{Advances};
+ghost use Rattle.whole_interchanges.specs.Scouting.{Advances};
 ghost use Rattle.gather_files.specs.Gathered.{HoldsInterchanges};
 ghost use Rattle.gather_files.specs.Closing.{IsClosedBy, IsClosedSo, IsLastSegment, StaysApart};
 ghost use Rattle.gather_files.specs.EndsByLayers.{EndsByLayers, EndsInHeaderByLayers};
 
 use crate::gather::End;
 use crate::trailer::open_end;
-use batch_cut::{Advanced, Scout, advance, may_begin};
 use hub_kinds::NoMemory;
 use memchr::memchr;
 use std::alloc::Global;
+use whole_interchanges::{Advanced, Scout, advance, may_begin};
 use x12_bytes::read_header;
 
 /// How many bytes are put after a file at most: sixteen spaces, before which no header can turn out to begin, and a terminator.

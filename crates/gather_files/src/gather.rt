@@ -14,10 +14,10 @@ use crate::cause::{Cause, cause_of};
 use crate::closing::close;
 use crate::fault::GatherFault;
 use crate::lead::{is_padding, skip_blanks, unpadded};
-use batch_cut::{Advanced, Scout, advance, forget};
 use std::alloc::Global;
 use std::io::Write;
 use stream_read::{Held, Source};
+use whole_interchanges::{Advanced, Scout, advance, forget};
 use x12_bytes::{HEADER_LEN, read_header};
 
 /// What became of a file.

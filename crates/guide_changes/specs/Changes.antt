@@ -7,7 +7,7 @@ use Rattle.diff_report.specs.Compared.{IsCompared}
 use Rattle.file_names.specs.Shown.{shown}
 use Rattle.guide_toml.specs.FileBytes.{IsGuideOf}
 use Rattle.guide_tree.specs.declared.rows.GuideRows.{GuideRows}
-use Rattle.night_ends.specs.Outbox.{path_in}
+use Rattle.system_io.specs.Outbox.{path_in}
 use Rattle.night_folder.specs.Files.{FileValue, FolderValue}
 use Rattle.night_shelf.specs.declared.night.NightFile.{NightFile}
 

@@ -1,3 +1,4 @@
 mod Conditioned
+mod OneFault
 mod OneSet
 mod Judged

@@ -96,10 +96,12 @@ fn shows_alone(set: &CheckedSet, part: &Part<'_>, difference: &Difference) -> bo
     ensures exact { AreSetFaults (guide_in set.now) (parts_in set.now) set.now.faults }
     ensures rising { AreRising set.now.faults }
 {
-    match set.faults() {
-        [fault] => has_its_code(fault) && shows(part, difference, fault),
-        _ => false,
+    let faults = set.faults();
+    if faults.len() != 1 {
+        return false;
     }
+    let fault = faults.at(0);
+    has_its_code(&fault) && shows(part, difference, &fault)
 }
 
 /// Whether the code of a fault is that of element errors just if the fault is one of an element.
@@ -119,10 +121,8 @@ fn has_fault(set: &CheckedSet, expected: &Expected) -> bool
     ensures exact { AreSetFaults (guide_in set.now) (parts_in set.now) set.now.faults }
     ensures rising { AreRising set.now.faults }
 {
-    match set.faults() {
-        [fault] => is_expected(expected, fault),
-        _ => false,
-    }
+    let faults = set.faults();
+    faults.len() == 1 && is_expected(expected, &faults.at(0))
 }
 
 /// What the 999 says of a set, from AK2 to IK5.

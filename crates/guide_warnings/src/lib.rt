@@ -12,7 +12,7 @@
 //! Source: own; X12.5, interchange header, and the 999 guide (005010X231), IK304, for headers that are let through and for the dictionary;
 //! X12.6, code lists.
 //!
-//! Tests: `trial_check`.
+//! Tests: `trial_explain`.
 #![tactic(auto)]
 
 mod codes;

@@ -10,7 +10,7 @@ ghost use Rattle.hl_check.specs.Known.{KnowsNamed};
 use crate::fault::add_if;
 use crate::known::add_named;
 use crate::rules::is_child_wrong;
-use hub_kinds::{ElementCode, Fault, NoMemory};
+use hub_kinds::{ElementCode, Faults, NoMemory};
 use loop_match::PlacedSeg;
 use std::alloc::Global;
 use std::collections::BTreeSet;
@@ -18,15 +18,15 @@ use x12_bytes::Delims;
 
 /// Adds what the later HLs show of an HL, and keeps the number that it names.
 fn add_before<'a>(
-    faults: &mut Vec<Fault<'a>>,
+    faults: &mut Faults<'a>,
     named: &mut BTreeSet<&'a [u8]>,
     delims: Delims,
     hl: &PlacedSeg<'_, 'a, 'a>,
 ) -> Result<(), NoMemory>
     ensures named { OnOk result ((later : List Segment) → KnowsNamed named.old delims later
         → KnowsNamed named.new delims (elements_of hl.now.seg.now ∷ later)) }
-    ensures faults { OnOk result ((later : List Segment) → KnowsNamed named.old delims later → faults.new.items
-        ≡ faults.old.items ++ fault_if (is_child_wrong delims (elements_of hl.now.seg.now) later) (placed_view hl.now) 4 PatternFailure) }
+    ensures faults { OnOk result ((later : List Segment) → KnowsNamed named.old delims later → faults.new
+        ≡ faults.old ++ fault_if (is_child_wrong delims (elements_of hl.now.seg.now) later) (placed_view hl.now) 4 PatternFailure) }
 {
     let (number, parent, _) = hl.seg.first_elements();
     let wrong = is_child_wrong(hl.seg.element(4), named.contains(number));
@@ -37,11 +37,11 @@ fn add_before<'a>(
 /// Adds what the later HLs show of each, from the last on.
 pub(crate) fn add_backward<'a>(
     alloc: Global,
-    faults: &mut Vec<Fault<'a>>,
+    faults: &mut Faults<'a>,
     delims: Delims,
     hls: &[PlacedSeg<'_, 'a, 'a>],
 ) -> Result<(), NoMemory>
-    ensures { OnOk result (faults.new.items ≡ faults.old.items ++ backward_faults delims (placed_views hls.now)) }
+    ensures { OnOk result (faults.new ≡ faults.old ++ backward_faults delims (placed_views hls.now)) }
 {
     let mut named = BTreeSet::new(alloc);
     let mut left = hls.len();

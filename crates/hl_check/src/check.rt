@@ -15,7 +15,7 @@ use crate::backward::add_backward;
 use crate::forward::add_forward;
 use crate::hls::hls_of;
 use guide_tree::{Guide, HlRule, Node};
-use hub_kinds::{Fault, NoMemory, in_order};
+use hub_kinds::{Faults, NoMemory};
 use loop_match::{PlacedSeg, Placing};
 use std::alloc::Global;
 use x12_bytes::Delims;
@@ -27,10 +27,10 @@ fn find_faults<'a>(
     rule: &HlRule,
     delims: Delims,
     hls: &[PlacedSeg<'_, 'a, 'a>],
-) -> Result<Vec<Fault<'a>>, NoMemory>
-    ensures { IfOk result (λ v. v.items ≡ found_faults rule.now delims (placed_views hls.now) (length hls.now)) }
+) -> Result<Faults<'a>, NoMemory>
+    ensures { IfOk result (λ v. v ≡ found_faults rule.now delims (placed_views hls.now) (length hls.now)) }
 {
-    let mut faults = Vec::new(alloc);
+    let mut faults = Faults::new(alloc);
     add_forward(alloc, &mut faults, rule, delims, hls)?;
     add_backward(alloc, &mut faults, delims, hls)?;
     Ok(faults)
@@ -48,7 +48,7 @@ pub fn is_hierarchy_whole(
     ensures { IfOk result (λ whole. OnTrue whole (IsHierarchyWhole (Some rule.now) delims (segments_of (placed_views hls.now)))) }
 {
     let faults = find_faults(alloc, rule, delims, hls)?;
-    Ok(faults.as_slice().is_empty())
+    Ok(faults.is_empty())
 }
 
 /// The faults of the HLs of a body, in their order.
@@ -59,13 +59,13 @@ fn check_by_rule<'a>(
     nodes: &'a [Node],
     rule: &HlRule,
     delims: Delims,
-) -> Result<Vec<Fault<'a>>, NoMemory>
-    ensures faults { IfOk result (λ v. (f : Fault) → Contains v.items f ↔ IsFaultAmong rule.now delims
+) -> Result<Faults<'a>, NoMemory>
+    ensures faults { IfOk result (λ v. (f : Fault) → Contains v f ↔ IsFaultAmong rule.now delims
         (hls_of (nodes_view nodes.now) (map elements_of segs.now) (map place_in placing.now.given)) f) }
-    ensures rising { IfOk result (λ v. AreRising v.items) }
+    ensures rising { IfOk result (λ v. AreRising v) }
 {
     let hls = hls_of(alloc, segs, placing, nodes)?;
-    Ok(in_order(find_faults(alloc, rule, delims, hls.as_slice())?))
+    Ok(find_faults(alloc, rule, delims, hls.as_slice())?.in_order())
 }
 
 /// Exactly the faults of the hierarchy of a body by the rule of its guide, under these places of its segments, where all
@@ -77,17 +77,17 @@ pub fn check_hl<'a>(
     segs: &[SegView<'a>],
     placing: &Placing,
     guide: &'a Guide,
-) -> Result<Vec<Fault<'a>>, NoMemory>
+) -> Result<Faults<'a>, NoMemory>
     ensures faults { IfOk result (λ v. (delims : Delims) → All (λ s. s.delims ≡ delims) segs.now → (f : Fault)
-        → Contains v.items f ↔ IsHierarchyFault (guide_of guide.now) delims (map elements_of segs.now)
+        → Contains v f ↔ IsHierarchyFault (guide_of guide.now) delims (map elements_of segs.now)
         (map place_in placing.now.given) f) }
-    ensures rising { IfOk result (λ v. AreRising v.items) }
+    ensures rising { IfOk result (λ v. AreRising v) }
 {
     let rows = guide.rows();
     match &rows.hl {
-        None => Ok(Vec::new(alloc)),
+        None => Ok(Faults::new(alloc)),
         Some(rule) => match segs.first() {
-            None => Ok(Vec::new(alloc)),
+            None => Ok(Faults::new(alloc)),
             Some(first) => check_by_rule(
                 alloc,
                 segs,

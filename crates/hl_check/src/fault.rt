@@ -4,7 +4,7 @@ ghost use Rattle.hl_check.specs.Found.{fault_if};
 ghost use Rattle.loop_match.specs.Viewed.{placed_view};
 
 use elem_rules::reference_at;
-use hub_kinds::{ElemFault, ElementCode, Fault, Lent, NO_NUMBER, NoMemory, SegmentCode};
+use hub_kinds::{ElemFault, ElementCode, Fault, Faults, Lent, NO_NUMBER, NoMemory, SegmentCode};
 use loop_match::{PlacedSeg, text_at};
 
 /// What is reported of an element of an HL.
@@ -30,13 +30,13 @@ fn hl_fault<'a>(hl: &PlacedSeg<'_, 'a, 'a>, element: u32, code: ElementCode) -> 
 
 /// Adds the fault, where something is wrong.
 pub(crate) fn add_if<'a>(
-    faults: &mut Vec<Fault<'a>>,
+    faults: &mut Faults<'a>,
     wrong: bool,
     hl: &PlacedSeg<'_, 'a, 'a>,
     element: u32,
     code: ElementCode,
 ) -> Result<(), NoMemory>
-    ensures { OnOk result (faults.new.items ≡ faults.old.items ++ fault_if wrong (placed_view hl.now) element code) }
+    ensures { OnOk result (faults.new ≡ faults.old ++ fault_if wrong (placed_view hl.now) element code) }
 {
     if wrong {
         faults.push(hl_fault(hl, element, code))?;

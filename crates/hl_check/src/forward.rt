@@ -9,7 +9,7 @@ use crate::fault::add_if;
 use crate::known::{add_level, level_with};
 use crate::rules::{is_filled, is_level_wrong, is_number_wrong};
 use guide_tree::HlRule;
-use hub_kinds::{ElementCode, Fault, NoMemory};
+use hub_kinds::{ElementCode, Faults, NoMemory};
 use loop_match::PlacedSeg;
 use std::alloc::Global;
 use std::collections::BTreeMap;
@@ -17,7 +17,7 @@ use x12_bytes::Delims;
 
 /// Adds what the earlier HLs show of the number, the parent and the level of an HL, and keeps its own.
 fn add_behind<'a>(
-    faults: &mut Vec<Fault<'a>>,
+    faults: &mut Faults<'a>,
     levels: &mut BTreeMap<&'a [u8], &'a [u8]>,
     rule: &HlRule,
     delims: Delims,
@@ -27,7 +27,7 @@ fn add_behind<'a>(
     ensures levels { OnOk result ((earlier : List Segment) → KnowsLevels levels.old earlier
         → KnowsLevels levels.new (earlier ++ elements_of hl.now.seg.now ∷ [])) }
     ensures faults { OnOk result ((earlier : List Segment) → KnowsLevels levels.old earlier → count ≡ length earlier + 1
-        → faults.new.items ≡ faults.old.items ++ faults_behind rule.now delims earlier (placed_view hl.now)) }
+        → faults.new ≡ faults.old ++ faults_behind rule.now delims earlier (placed_view hl.now)) }
 {
     let (number, parent, level) = hl.seg.first_elements();
     let known = level_with(levels, number).is_some();
@@ -50,13 +50,13 @@ fn add_behind<'a>(
 /// Adds what the earlier HLs show of each.
 pub(crate) fn add_forward<'a>(
     alloc: Global,
-    faults: &mut Vec<Fault<'a>>,
+    faults: &mut Faults<'a>,
     rule: &HlRule,
     delims: Delims,
     hls: &[PlacedSeg<'_, 'a, 'a>],
 ) -> Result<(), NoMemory>
-    ensures { OnOk result (faults.new.items
-        ≡ faults.old.items ++ forward_faults rule.now delims (placed_views hls.now) (length hls.now)) }
+    ensures { OnOk result (faults.new
+        ≡ faults.old ++ forward_faults rule.now delims (placed_views hls.now) (length hls.now)) }
 {
     let mut levels = BTreeMap::new(alloc);
     for i in 0..hls.len() {

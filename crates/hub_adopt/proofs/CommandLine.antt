@@ -7,7 +7,7 @@ use Rattle.clap.specs.Words.{HasMatchesOf, Text, first_value, found_of, is_simpl
 use Rattle.clap.specs.declared.parser.matches.ArgMatches.{ArgMatches}
 use Rattle.clap.proofs.OnLiterals.{clap_on_literals}
 use Rattle.night_command.specs.CommandLine.{CanShare, piece_given, workers_given}
-use Rattle.night_ends.proofs.ForAbove.{found}
+use Rattle.system_io.proofs.ForAbove.{found}
 use Rattle.program_frame.specs.Arguments.{value_in}
 use Rattle.program_frame.specs.Matching.{AsksForText}
 use Rattle.hub_folder.specs.Names.{is_path}

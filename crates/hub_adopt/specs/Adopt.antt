@@ -1,6 +1,6 @@
 -- Old nights become nights of a hub (own): each is there already, or is made again and kept, one after another.
 use Rattle.std.specs.Prelude.{◌≡◌, ◌≢◌, ◌≤◌, ◌+◌, ◌⊎◌, ℕ, zero, suc, List, [], Option, Some, length, slice_get}
-use Rattle.night_ends.specs.Outbox.{path_in}
+use Rattle.system_io.specs.Outbox.{path_in}
 use Rattle.night_marks.specs.Order.{in_order}
 use Rattle.night_marks.specs.declared.mark.NightMark.{NightMark}
 use Rattle.night_review.specs.Nights.{AreNights}

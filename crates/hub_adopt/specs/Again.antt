@@ -4,7 +4,7 @@ use Rattle.std.specs.List.Sorted.{IsPermutation}
 use Rattle.day_files.specs.Listing.{listing_of}
 use Rattle.day_files.specs.declared.file.Content.TheVariants as content
 use Rattle.day_files.specs.declared.file.DayFile.{DayFile}
-use Rattle.night_ends.specs.Outbox.{path_in}
+use Rattle.system_io.specs.Outbox.{path_in}
 use Rattle.night_folder.specs.Files.{FileValue}
 use Rattle.night_marks.specs.declared.mark.NightMark.{NightMark}
 use Rattle.night_review.specs.Nights.{AreNights}

@@ -2,7 +2,7 @@
 use Rattle.std.specs.Prelude.{◌≡◌, ◌&&◌, ◌||◌, ℕ, Bool, eqb, List, [], ◌∷◌, ◌++◌, Some, codes, filter}
 use Rattle.std.specs.List.{AllZip, starts_with}
 use Rattle.std.specs.Str.{bytes_eq}
-use Rattle.night_ends.specs.Outbox.{path_in}
+use Rattle.system_io.specs.Outbox.{path_in}
 use Rattle.night_folder.specs.Files.{FileValue, FolderValue}
 use Rattle.night_shelf.specs.declared.night.NightFile.{NightFile}
 

@@ -2,7 +2,7 @@
 use Rattle.std.specs.Prelude.{◌≡◌, ◌||◌, ℕ, Bool, true, List, Some, codes}
 use Rattle.std.specs.List.{AllZip, filter_map, list_all, list_any}
 use Rattle.std.specs.Str.{bytes_eq}
-use Rattle.night_ends.specs.Outbox.{path_in}
+use Rattle.system_io.specs.Outbox.{path_in}
 use Rattle.night_folder.specs.Files.{FileValue, FolderValue, bytes_or_none, first_line}
 use Rattle.night_folder.specs.Marks.{is_hidden}
 use Rattle.night_folder.specs.Nights.{IsRead, bad_in, entry_in}

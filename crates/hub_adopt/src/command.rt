@@ -9,10 +9,10 @@ use clap::{ArgMatches, Command};
 use hub_folder::is_path;
 use hub_kinds::copy_text;
 use night_command::{Sharing, piece_option, sharing_given, workers_option};
-use night_ends::with_argument;
 use program_frame::{Matched, Mistake, match_words, program, word};
 use std::alloc::{AllocError, Global};
 use std::convert::AsStr;
+use system_io::with_argument;
 
 /// The name of the program.
 pub(crate) const PROGRAM: &str = "nighthub_day";

@@ -4,11 +4,11 @@ ghost use Rattle.hub_adopt.specs.Refusal.{IsStatus, cause_status, line_of, lines
 
 use hub_folder::{Failure, print_named};
 use hub_kinds::{NoMemory, Text};
-use night_ends::print_text;
 use program_frame::Reported;
 use std::alloc::{AllocError, Global};
 use std::io;
 use std::io::Write;
+use system_io::print_text;
 
 /// Why a path isn't what an adoption needs.
 #[derive(Clone, Copy, Debug, PartialEq, Eq)]

@@ -6,7 +6,7 @@ use Rattle.std.specs.declared.alloc.Global.{Global}
 use Rattle.clap.specs.Words.{HasMatchesOf, Text, first_value, found_of, is_simple, is_simple_and_free}
 use Rattle.clap.specs.declared.parser.matches.ArgMatches.{ArgMatches}
 use Rattle.clap.proofs.OnLiterals.{clap_on_literals}
-use Rattle.night_ends.proofs.ForAbove.{found}
+use Rattle.system_io.proofs.ForAbove.{found}
 use Rattle.program_frame.specs.Arguments.{value_in}
 use Rattle.program_frame.specs.Matching.{AsksForText}
 use Rattle.hub_archive.specs.Asked.{IsAsked, IsRequest, request_as}

@@ -9,7 +9,7 @@ use Rattle.archived_nights.specs.Archived.{IsArchiveOf}
 use Rattle.archived_nights.specs.Files.{archive_files}
 use Rattle.archived_nights.specs.declared.archive.Archive.{Archive}
 use Rattle.hub_ledger.specs.declared.entry.NightEntry.{NightEntry}
-use Rattle.night_ends.specs.Outbox.{path_in}
+use Rattle.system_io.specs.Outbox.{path_in}
 use Rattle.night_folder.specs.Files.{FileValue, in_night}
 use Rattle.night_marks.specs.Count.{unarchived}
 use Rattle.night_marks.specs.declared.mark.NightMark.{NightMark}

@@ -8,10 +8,10 @@ use crate::help::{STATUSES, USAGE};
 use clap::{ArgMatches, Command};
 use hub_folder::is_path;
 use hub_kinds::{copy_text, read_number};
-use night_ends::with_argument;
 use program_frame::{Matched, Mistake, match_words, option_free, program, word};
 use std::alloc::{AllocError, Global};
 use std::convert::AsStr;
+use system_io::with_argument;
 
 /// The name of the program.
 pub(crate) const PROGRAM: &str = "nighthub_day";

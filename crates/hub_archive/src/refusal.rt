@@ -4,11 +4,11 @@ ghost use Rattle.hub_archive.specs.Refusal.{IsStatus, cause_status, line_of, lin
 
 use hub_folder::{Failure, print_named};
 use hub_kinds::{NoMemory, Text};
-use night_ends::print_text;
 use program_frame::Reported;
 use std::alloc::{AllocError, Global};
 use std::io;
 use std::io::Write;
+use system_io::print_text;
 
 /// Why nights of the hub at a path aren't archived.
 #[derive(Clone, Copy, Debug, PartialEq, Eq)]

@@ -11,8 +11,8 @@ use Rattle.clap.proofs.OnLiterals.{clap_on_literals}
 use Rattle.std.specs.Borrow.{Bor}
 use Rattle.std.specs.declared.alloc.Global.{Global}
 use Rattle.night_command.specs.CommandLine.{CanShare, piece_given, workers_given}
-use Rattle.night_ends.specs.Words.{or_none, values_found}
-use Rattle.night_ends.proofs.ForAbove.{all_found, found}
+use Rattle.system_io.specs.Words.{or_none, values_found}
+use Rattle.system_io.proofs.ForAbove.{all_found, found}
 use Rattle.program_frame.specs.Arguments.{value_in, values_in}
 use Rattle.program_frame.specs.Matching.{AsksForText}
 use Rattle.hub_command.specs.Asked.{IsAsked, IsRequest, run_in}

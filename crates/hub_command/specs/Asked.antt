@@ -2,7 +2,7 @@
 use Rattle.std.specs.Prelude.{◌≡◌, ◌⊎◌, ℕ, List, Option, Some, None, Bool, codes, map, option_map}
 use Rattle.clap.specs.Words.{Text}
 use Rattle.clap.specs.declared.parser.matches.Found.{Found}
-use Rattle.night_ends.specs.Words.{or_none, values_found}
+use Rattle.system_io.specs.Words.{or_none, values_found}
 use Rattle.night_command.specs.CommandLine.{piece_given, workers_given}
 use Rattle.night_command.specs.declared.sharing.Sharing.{Sharing}
 use Rattle.program_frame.specs.Matching.{AsksForText}

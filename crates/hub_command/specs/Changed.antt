@@ -1,7 +1,7 @@
 -- Guides that have changed (own): what is said of the guides of a hub against those of its last night.
 use Rattle.std.specs.Prelude.{◌≡◌, ℕ, List, [], ◌∷◌, codes}
 use Rattle.guide_changes.specs.Changes.{AreChanges}
-use Rattle.night_ends.specs.Outbox.{path_in}
+use Rattle.system_io.specs.Outbox.{path_in}
 use Rattle.night_folder.specs.Files.{in_night}
 use Rattle.night_shelf.specs.declared.night.NightFile.{NightFile}
 

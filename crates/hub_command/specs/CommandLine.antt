@@ -4,7 +4,7 @@ use Rattle.std.specs.Prelude.{if◌then◌else◌, length}
 use Rattle.std.specs.Str.{bytes_eq}
 use Rattle.clap.specs.Words.{App, Rule, Text, takes, with_rule}
 use Rattle.moment.specs.Calendar.{is_moment}
-use Rattle.night_ends.specs.Words.{or_none}
+use Rattle.system_io.specs.Words.{or_none}
 use Rattle.night_command.specs.CommandLine.{piece_given, piece_rule, workers_given, workers_rule}
 use Rattle.program_frame.specs.Arguments.{option_flag, option_free, option_repeated, program, value_in, values_in, word, words as places}
 use Rattle.hub_folder.specs.Names.{is_night_name, is_path}

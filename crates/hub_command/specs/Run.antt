@@ -3,7 +3,7 @@ use Rattle.std.specs.Prelude.{◌≡◌, ◌≤◌, ◌-◌, ◌⊎◌, ⊤, ℕ
 use Rattle.std.specs.List.{AllZip}
 use Rattle.day_files.specs.declared.file.DayFile.{DayFile}
 use Rattle.kept_files.specs.Sums.{sum_text}
-use Rattle.night_ends.specs.Outbox.{path_in}
+use Rattle.system_io.specs.Outbox.{path_in}
 use Rattle.night_marks.specs.declared.mark.NightMark.{NightMark}
 use Rattle.night_shelf.specs.Shelf.{Changes, IsKept, MayLeave, Place}
 use Rattle.night_shelf.specs.declared.night.KeptNight.{KeptNight}

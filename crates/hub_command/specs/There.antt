@@ -3,7 +3,7 @@ use Rattle.std.specs.Prelude.{◌≡◌, ◌++◌, ℕ, false, List, Option, Som
 use Rattle.day_files.specs.Listing.{listing_of}
 use Rattle.day_files.specs.declared.file.DayFile.{DayFile}
 use Rattle.night_review.specs.GoingOn.{GoOn}
-use Rattle.night_ends.specs.Outbox.{path_in}
+use Rattle.system_io.specs.Outbox.{path_in}
 use Rattle.night_folder.specs.Files.{FileValue, bytes_or_none, in_night}
 use Rattle.night_marks.specs.Count.{night_count}
 use Rattle.night_marks.specs.declared.mark.NightMark.{NightMark}

@@ -1,6 +1,6 @@
 ghost use Rattle.std.specs.Prelude.{◌≡◌, ◌&&◌, ℕ, Option, None, codes, false, true, not, map, option_map, IfOk, IfErr};
 ghost use Rattle.clap.specs.Words.{app_of, first_value, found_of, rule_of};
-ghost use Rattle.night_ends.specs.Words.{or_none, values_found};
+ghost use Rattle.system_io.specs.Words.{or_none, values_found};
 ghost use Rattle.program_frame.specs.Mistake.{IsUsage};
 ghost use Rattle.hub_command.specs.Asked.{ArePaths, AreShared, IsAsked, IsGiven, IsRequest, IsRequested, text_of};
 ghost use Rattle.hub_command.specs.CommandLine as line;
@@ -11,12 +11,12 @@ use hub_folder::{is_night_name, is_path};
 use hub_kinds::copy_text;
 use moment::At;
 use night_command::{Sharing, piece_option, sharing_given, workers_option};
-use night_ends::{texts_given, with_argument};
 use program_frame::{
     Matched, Mistake, match_words, option_flag, option_free, option_repeated, program, word, words,
 };
 use std::alloc::{AllocError, Global};
 use std::convert::AsStr;
+use system_io::{texts_given, with_argument};
 
 /// The name of the program.
 pub(crate) const PROGRAM: &str = "nighthub_day";

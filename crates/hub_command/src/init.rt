@@ -6,11 +6,11 @@ ghost use Rattle.hub_command.specs.Lines as lines;
 use file_names::append_shown;
 use hub_folder::{Failure, Told, papers_at, path_text};
 use hub_kinds::{Lent, NoMemory, copy_text};
-use night_ends::{create_new_at, write_and_sync};
 use std::alloc::Global;
 use std::fs::OpenFile;
 use std::rt::Files;
 use std::{fs, io};
+use system_io::{create_new_at, write_and_sync};
 
 /// What the file hub.toml says.
 const MARK: &[u8] = b"version = 1\n";

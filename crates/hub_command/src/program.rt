@@ -27,8 +27,8 @@ use std::sync::Wait;
 use std::thread::Threads;
 use std::time::Clock;
 
-/// Runs the program on its arguments, without its name, if these begin with a command of a hub, and gives its exit status: that of what is
-/// told, or of the failure whose lines it has printed on `err`. A run shows on `shown` at which step it is, and clears it at the end.
+/// Runs the program on its arguments, without its name, if these begin with a command of a hub, and gives its exit status: the
+/// command's, or the failure's, whose lines it has printed on `err`. A run shows its current step on `shown`, and clears it at the end.
 pub fn hub_main<R, S, O, E, P>(rt: &R, words: &[S], out: &mut O, err: &mut E, shown: &mut P) -> u8
 where
     R: Files + AllocGlobal + Threads + Wait + Clock + Sync + Clone + Drop,

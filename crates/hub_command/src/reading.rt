@@ -9,12 +9,12 @@ use gather_command::is_changed;
 use hub_folder::Failure;
 use hub_kinds::{NoMemory, Text, copy_text};
 use hub_night::Setting;
-use night_ends::open_at;
 use night_folder::paper_of;
 use std::fs::Metadata;
 use std::io::ErrorKind;
 use std::rt::Files;
 use std::{fs, io};
+use system_io::open_at;
 
 /// The bytes of a file that came in.
 fn input_at<R: Files + AllocGlobal>(rt: &R, path: &str) -> Result<Text, Failure>

@@ -1,7 +1,7 @@
 -- The files of a hub (own), by their paths in its folder: the setup, the guides, and the first counters, which may be absent.
 use Rattle.std.specs.Prelude.{◌≡◌, ℕ, Bool, not, ◌&&◌, ⊤, List, Option, Some, None, codes, eqb, filter}
 use Rattle.std.specs.List.{AllZip, ends_with}
-use Rattle.night_ends.specs.Outbox.{path_in}
+use Rattle.system_io.specs.Outbox.{path_in}
 use Rattle.night_folder.specs.Files.{FileValue, FolderValue}
 use Rattle.night_folder.specs.Marks.{IsAbsent, is_hidden}
 use Rattle.night_shelf.specs.declared.night.NightFile.{NightFile}

@@ -1,7 +1,7 @@
 -- The program that makes a night (FIPS 180-4; own): the sum of its file, as sha256sum prints it.
 use Rattle.std.specs.Prelude.{◌≡◌, ℕ, List, [], Option, Some, None, codes}
 use Rattle.kept_files.specs.Sums.{line_of, sum_text}
-use Rattle.night_ends.specs.Outbox.{path_in}
+use Rattle.system_io.specs.Outbox.{path_in}
 use Rattle.night_folder.specs.Files.{FileValue}
 
 -- the line of the program's file, which has these bytes

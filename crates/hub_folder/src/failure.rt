@@ -5,11 +5,11 @@ ghost use Rattle.hub_folder.specs.Failure.{IsStatus, lines_of, path_in, report_i
 
 use file_names::print_shown;
 use hub_kinds::{NoMemory, Text};
-use night_ends::print_text;
 use program_frame::Reported;
 use std::alloc::{AllocError, Global};
 use std::io;
 use std::io::Write;
+use system_io::print_text;
 
 /// Why a run failed. The paths are those of the hub, of one of its files, or of the input.
 #[derive(Debug, Drop)]

@@ -1,19 +1,19 @@
 ghost use Rattle.std.specs.Prelude.{◌≡◌, ◌++◌, ◌∷◌, [], IfErr, IfOk, OnOk, codes, false, filter};
 ghost use Rattle.std.specs.List.{AllZip};
 ghost use Rattle.std.specs.String.{string_vec};
-ghost use Rattle.night_ends.specs.Outbox.{path_in};
+ghost use Rattle.system_io.specs.Outbox.{path_in};
 ghost use Rattle.night_folder.specs.Marks.{IsAbsent};
 ghost use Rattle.hub_folder.specs.Failure.{IsBefore};
 ghost use Rattle.hub_folder.specs.Papers as papers;
 
 use crate::failure::Failure;
 use hub_kinds::{Items, NoMemory, Text, copy_text};
-use night_ends::{Presence, look_at};
 use night_folder::{PaperAt, list_at, read_paper};
 use night_shelf::NightFile;
 use std::alloc::Global;
 use std::rt::Files;
 use std::{io, str};
+use system_io::{Presence, look_at};
 
 /// The files of a hub.
 #[derive(Drop)]

@@ -6,12 +6,12 @@ use Rattle.std.specs.declared.cmp.Ordering.{Ordering}
 use Rattle.std.specs.declared.cmp.Ordering.TheVariants.{Less, Equal, Greater}
 use Rattle.std.specs.Cmp.Lexicographic.{on_texts}
 use Rattle.std.specs.List.{IsDistinct, IsAllAdjacentAnswer, list_any, AllByRecursion}
-use Rattle.std.specs.List.Sorted.{IsPermutation, IsSorted}
+use Rattle.std.specs.List.Sorted.{IsPermutation, IsSorted, IsStrictlySortedBy}
 use Rattle.std.proofs.lemmas.Bool.{or_parts, true_from_ne_false}
 use Rattle.std.proofs.lemmas.Cmp.{eq_by_cmp_equiv}
 use Rattle.std.proofs.lemmas.List.Sorted.{IsPermutation-sym, length_permutation}
 use Rattle.std.proofs.lemmas.Map.Keys.{sorted_from_all_adjacent, IsDistinct-from_sorted, IsDistinct-IsPermutation, apart_from_distinct}
-use Rattle.hub_kinds.specs.Rising.{order_by}
+use Rattle.hub_kinds.specs.Rising.{order_by, IsRisingBy}
 use Rattle.hub_kinds.specs.Twice.{has_same_key, has_twice}
 
 none_behind : {A : Type 0} (key : A → List ℕ) (x : A) (xs : List A) → list_any (has_same_key key x) xs ≡ false
@@ -82,3 +82,12 @@ answered key found sorted moved up true all = sym (rising_distinct key found sor
 answered key found [] moved up false some = absurd (omega (arith, some.1))
 answered key found (x ∷ xs) moved up false some =
     sym (level_twice key found (x ∷ xs) moved up some.0 x some.1 (sym (some.2 x)))
+
+-- values each of which is before the next
+pub rising_adjacent : {A : Type 0} (key : A → List ℕ) (xs : List A) (answer : Bool)
+    → IsAllAdjacentAnswer (λ x y b. b ≡ is_lt (order_by key x y)) xs answer → answer ≡ true → IsRisingBy key xs
+unfolding IsStrictlySortedBy
+rising_adjacent key [] true all h = tt
+rising_adjacent key (x ∷ xs) true all h =
+    sorted_from_all_adjacent (on_texts key) (x ∷ xs) x (λ k l. less_from _ (sym (all k x l)))
+rising_adjacent key xs false all h = absurd (true≢false (sym h))

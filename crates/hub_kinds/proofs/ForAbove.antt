@@ -1,3 +1,2 @@
 -- The lemmas of this crate on which those above it stand.
 pub use Rattle.hub_kinds.proofs.Once.{none_rises}
-pub use Rattle.hub_kinds.proofs.Reading.{find-at}

@@ -12,6 +12,7 @@ use Rattle.std.proofs.lemmas.List.Sorted.{ranks_by, IsPermutation-sym, Contains-
 use Rattle.std.proofs.lemmas.List.Kept.{Any-dedup, Contains-from_dedup, IsStrictlySortedBy-dedup}
 use Rattle.std.proofs.lemmas.Map.Lookups.{exact_bytes}
 use Rattle.hub_kinds.specs.Rising.{order_by, IsRisingBy, IsKeyedBy}
+use Rattle.hub_kinds.specs.Rows.{IsOnceEach}
 
 order_total : {A : Type 0} (key : A → List ℕ) → IsTotalOrder (order_by key)
 order_total key = on_texts key
@@ -42,11 +43,25 @@ pub once_from : {A : Type 0} (key : A → List ℕ) (found sorted : List A) (x :
 once_from key found sorted x moved h = Contains-permutation sorted found x (IsPermutation-sym found sorted moved)
     (Contains-from_dedup (eq_by_cmp (order_by key)) sorted x h)
 
+-- one of the values that are kept has the key of each
+pub once_like : {A : Type 0} (key : A → List ℕ) (found sorted : List A) (x : A) → IsPermutation found sorted → Contains found x
+    → (y : A) × Contains (once key sorted) y × (key x ≡ key y)
+once_like key found sorted x moved h =
+    let kept = Any-dedup (eq_by_cmp_equiv (order_total key)) sorted x (Contains-permutation found sorted x moved h) in
+    (kept.1, (kept.0, kept.2, kept.3), exact_bytes _ _ (equal_from (order_by key x kept.1) kept.4))
+
 pub once_to : {A : Type 0} (key : A → List ℕ) (found sorted : List A) (x : A) → IsPermutation found sorted → IsKeyedBy key found
     → Contains found x → Contains (once key sorted) x
 once_to key found sorted x moved keyed h =
-    let kept = Any-dedup (eq_by_cmp_equiv (order_total key)) sorted x (Contains-permutation found sorted x moved h) in
-    let y = kept.1 in
-    let there : Contains (once key sorted) y = (kept.0, kept.2, kept.3) in
-    let same = keyed x y h (once_from key found sorted y moved there) (exact_bytes _ _ (equal_from (order_by key x y) kept.4)) in
-    subst (λ y. Contains (once key sorted) y) (sym same) there
+    let y = once_like key found sorted x moved h in
+    let same = keyed x y.0 h (once_from key found sorted y.0 moved y.1) y.2 in
+    subst (λ y. Contains (once key sorted) y) (sym same) y.1
+
+-- sorted values, one with each key
+pub once_each : {A : Type 0} (key : A → List ℕ) (found sorted : List A) → IsPermutation found sorted → IsSorted (order_by key) sorted
+    → IsOnceEach key found (once key sorted)
+once_each key found sorted moved up = record {
+  from = λ x h. once_from key found sorted x moved h;
+  to = λ x h. once_like key found sorted x moved h;
+  rising = once_rises key sorted up;
+}

@@ -1,7 +1,8 @@
 -- The order of faults (own), over what the 999 guide's IK3 and IK4 show.
-use Rattle.std.specs.Prelude.{ℕ, List, [], ◌∷◌, Option, Some, None}
+use Rattle.std.specs.Prelude.{ℕ, List, [], ◌∷◌, Option, Some, None, option_map}
 use Rattle.hub_kinds.specs.declared.fault.Fault.{Fault}
 use Rattle.hub_kinds.specs.declared.fault.ElemFault.{ElemFault}
+use Rattle.hub_kinds.specs.declared.fault.FaultHead.{FaultHead}
 use Rattle.hub_kinds.specs.declared.fault.TheConstants.{NO_NUMBER}
 use Rattle.hub_kinds.specs.Rising.{IsRisingBy}
 use Rattle.hub_kinds.specs.Codes.{segment_rank, element_rank}
@@ -25,3 +26,7 @@ AreRising faults = IsRisingBy key_of faults
 
 abbrev pub AreElementsRising : List ElemFault → Type 0
 AreElementsRising faults = IsRisingBy element_key_of faults
+
+-- what a fault says without its texts
+abbrev pub head_of : Fault → FaultHead
+head_of f = record { position = f.position; code = f.code; element_code = option_map (λ e. e.code) f.elem }

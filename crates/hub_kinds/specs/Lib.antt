@@ -6,6 +6,7 @@ pub mod Interchange
 pub mod Numbers
 pub mod Place
 pub mod Rising
+pub mod Rows
 pub mod SetCodes
 pub mod TextList
 pub mod Twice

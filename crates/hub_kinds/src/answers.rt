@@ -1,4 +1,4 @@
-use crate::fault::Fault;
+use crate::faults::Faults;
 use crate::items::Items;
 use crate::lent::Lent;
 use crate::set_codes::{GroupCode, GroupVerdict, SetCode, Verdict};
@@ -32,7 +32,7 @@ pub struct SetAnswer<'a> {
     /// ST03; empty where it is absent.
     pub convention: Lent<'a>,
     /// The faults, in their order.
-    pub faults: Items<Fault<'a>>,
+    pub faults: Faults<'a>,
     /// What is wrong with the set, in the order of its codes; five at most.
     pub codes: Items<SetCode>,
     /// The verdict on the set.

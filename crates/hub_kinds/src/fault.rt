@@ -45,6 +45,17 @@ pub struct ElemFault<'a> {
     pub copy: Lent<'a>,
 }
 
+/// What a fault says without its texts.
+#[derive(Clone, Copy, Debug)]
+pub struct FaultHead {
+    /// The segment's number in the set, ST being 1.
+    pub position: u64,
+    /// What is wrong with the segment.
+    pub code: SegmentCode,
+    /// What is wrong with an element of it; none where the fault is not one of an element.
+    pub element_code: Option<ElementCode>,
+}
+
 /// Which of two faults comes first: by position, segment code, slot, element, component, repetition, element
 /// code (own). Texts aren't compared, so this is a total order of the keys and no `Ord` of `Fault`.
 pub fn fault_order(a: &Fault, b: &Fault) -> Ordering
@@ -61,7 +72,7 @@ pub fn element_fault_order(a: &ElemFault, b: &ElemFault) -> Ordering
     elem_key(a).cmp(&elem_key(b))
 }
 
-fn key(fault: &Fault) -> [u64; 7]
+pub(crate) fn key(fault: &Fault) -> [u64; 7]
     ensures { result ≡ key_of fault.now }
 {
     let [element, component, repetition, code] = match &fault.elem {
@@ -90,13 +101,13 @@ fn elem_key(elem: &ElemFault) -> [u64; 4]
     ]
 }
 
-fn segment_rank(code: SegmentCode) -> u64
+pub(crate) fn segment_rank(code: SegmentCode) -> u64
     ensures { result ≡ segment_rank code }
 {
     code as u64
 }
 
-fn element_rank(code: ElementCode) -> u64
+pub(crate) fn element_rank(code: ElementCode) -> u64
     ensures { result ≡ element_rank code }
 {
     code as u64

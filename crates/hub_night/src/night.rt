@@ -17,7 +17,6 @@ use hub_kinds::{Items, NoMemory, Text, copy_text};
 use hub_ledger::NightEntry;
 use hub_tonight::{Call, HubFiles, Tonight, tonight};
 use kept_files::{Heading, kept_files};
-use night_ends::RELEASE;
 use night_marks::NightMark;
 use night_record::AddressNext;
 use night_shelf::{KeptNight, NightFile};
@@ -25,6 +24,7 @@ use std::alloc::Global;
 use std::sync::Wait;
 use std::thread::Threads;
 use std::time::Clock;
+use system_io::RELEASE;
 
 /// A night that is made, and isn't kept yet.
 #[derive(Drop)]

@@ -3,10 +3,10 @@ use Rattle.std.proofs.Common.{◌≡◌, ℕ, ◌+◌, ◌<◌, ◌^◌, List, [
 use Rattle.std.proofs.lemmas.List.{length-replicate}
 use Rattle.partner_setup.specs.Setup.{SetupValue}
 use Rattle.env_index.specs.Words.{IndexEntry}
-use Rattle.night_writing.proofs.ForAbove.{night_of_written, first_written, nothing_acknowledged}
-use Rattle.night_writing.specs.Night.{IsNightOf}
-use Rattle.night_writing.specs.Writing.{HasRoomFor, IsBatchWritten, IsClosedBy, IsWrittenOf, WritingValue, nothing_written}
-use Rattle.night_writing.specs.declared.night.Night.{Night}
+use Rattle.night_batches.proofs.ForAbove.{night_of_written, first_written, nothing_acknowledged}
+use Rattle.night_batches.specs.Night.{IsNightOf}
+use Rattle.night_batches.specs.Writing.{HasRoomFor, IsBatchWritten, IsClosedBy, IsWrittenOf, WritingValue, nothing_written}
+use Rattle.night_batches.specs.declared.night.Night.{Night}
 
 -- before it there is room for as many interchanges and bytes outside as can be counted
 pub room_before : (setup : SetupValue) (at : List ℕ) (w : WritingValue) (more others : ℕ) → w ≡ nothing_written setup → more < 2 ^ 64

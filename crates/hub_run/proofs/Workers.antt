@@ -3,14 +3,14 @@ use Rattle.std.proofs.Common.{◌∙◌, ℕ, List, ap, refl, subst, sym}
 use Rattle.std.specs.List.{All, AllZip}
 use Rattle.env_index.specs.Words.{HasSpans, IndexEntry, IndexValue, settled}
 use Rattle.partner_setup.specs.Setup.{SetupValue}
-use Rattle.checked_text.proofs.ForAbove.{settled_spans}
-use Rattle.checked_text.specs.Asked.{IsFound, asked_of}
-use Rattle.checked_text.specs.CheckedText.{AreCheckedAs}
-use Rattle.checked_text.specs.Settled.{settled_faults}
-use Rattle.night_findings.specs.FoundOut.{IsFoundOut}
-use Rattle.night_findings.specs.declared.found.FoundText.{FoundText}
-use Rattle.night_writing.specs.Night.{IsNight, IsNightIn, IsNightOf}
-use Rattle.night_writing.specs.declared.night.Night.{Night}
+use Rattle.set_answers.proofs.ForAbove.{settled_spans}
+use Rattle.set_answers.specs.Asked.{IsFound, asked_of}
+use Rattle.set_answers.specs.CheckedText.{AreCheckedAs}
+use Rattle.set_answers.specs.Settled.{settled_faults}
+use Rattle.set_findings.specs.FoundOut.{IsFoundOut}
+use Rattle.set_findings.specs.declared.found.FoundText.{FoundText}
+use Rattle.night_batches.specs.Night.{IsNight, IsNightIn, IsNightOf}
+use Rattle.night_batches.specs.declared.night.Night.{Night}
 
 -- each set stands in its span
 pub found_spans : (text : List ℕ) (setup : SetupValue) (found : FoundText) → IsFoundOut text setup found

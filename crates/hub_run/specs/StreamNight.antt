@@ -2,7 +2,7 @@
 use Rattle.std.specs.Prelude.{◌≡◌, ℕ, ◌≤◌, List, length, Option, IfSome}
 use Rattle.hub_kinds.specs.declared.limits.TheConstants.{LONGEST_TEXT}
 use Rattle.partner_setup.specs.Setup.{SetupValue}
-use Rattle.night_writing.specs.declared.night.Night.{Night}
+use Rattle.night_batches.specs.declared.night.Night.{Night}
 use Rattle.night_definition.specs.ReadBack as defined
 use Rattle.night_equal_text.specs.LookedUp.{seen_setup}
 use Rattle.night_equal_read.specs.Read.{seen_night}

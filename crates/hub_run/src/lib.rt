@@ -18,8 +18,8 @@ mod stream;
 mod writing;
 
 pub use hub_kinds::within_limit;
+pub use night_batches::Night;
 pub use night_report::is_clean;
-pub use night_writing::Night;
 pub use plain::run_plain;
 pub use run_fault::RunFault;
 pub use shared::run_night;

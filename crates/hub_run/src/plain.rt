@@ -1,20 +1,20 @@
 ghost use Rattle.std.specs.Prelude.{◌↔◌, ◌<◌, ◌≤◌, length, IfOk, IsErrOf};
 ghost use Rattle.moment.specs.Moment.{IsMoment};
 ghost use Rattle.partner_setup.specs.Sound.{IsSoundSetup};
-ghost use Rattle.night_writing.specs.Night.{IsNight};
+ghost use Rattle.night_batches.specs.Night.{IsNight};
 ghost use Rattle.night_definition.specs.ReadBack as defined;
 ghost use Rattle.night_equal_text.specs.LookedUp.{seen_setup};
 ghost use Rattle.night_equal_read.specs.Read.{seen_night};
 
 use crate::run_fault::RunFault;
 use crate::writing::write_night;
-use checked_text::settled_faults;
 use env_index::index_plain;
 use hub_kinds::{LONGEST_TEXT, NoMemory, within_limit};
 use moment::At;
+use night_batches::Night;
 use night_equal_read::whole_nights_are_one;
-use night_writing::Night;
 use partner_setup::Setup;
+use set_answers::settled_faults;
 use std::alloc::Global;
 
 /// The night of a text that is read front to back on one thread, by a setup and at a moment. A text of more than `LONGEST_TEXT`

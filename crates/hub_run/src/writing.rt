@@ -1,18 +1,18 @@
 ghost use Rattle.std.specs.Prelude.{◌≡◌, IfOk, length};
 ghost use Rattle.std.specs.List.{All, AllZip};
 ghost use Rattle.env_index.specs.Words.{HasSpans};
-ghost use Rattle.checked_text.specs.Asked.{IsFound, asked_of};
-ghost use Rattle.night_writing.specs.Night.{IsNightIn};
-ghost use Rattle.night_writing.specs.Writing.{HasRoomFor, IsBatchWritten, nothing_written};
+ghost use Rattle.set_answers.specs.Asked.{IsFound, asked_of};
+ghost use Rattle.night_batches.specs.Night.{IsNightIn};
+ghost use Rattle.night_batches.specs.Writing.{HasRoomFor, IsBatchWritten, nothing_written};
 
-use checked_text::{Finding, ReportWriters};
 use env_index::Index;
 use hub_kinds::NoMemory;
 use mailbox::Writers;
 use moment::At;
+use night_batches::{Night, Writing};
 use night_report::LineWriters;
-use night_writing::{Night, Writing};
 use partner_setup::Setup;
+use set_answers::{Finding, ReportWriters};
 use std::alloc::Global;
 
 /// Nothing yet, with room for the one batch of this index.

@@ -7,7 +7,7 @@ use Rattle.night_equal_read.specs.Read.{seen_night}
 use Rattle.night_equal_setup.specs.Laws.{CountersTextsAreOne}
 use Rattle.night_equal_text.specs.LookedUp.{seen_setup}
 use Rattle.night_shelf.specs.declared.night.NightFile.{NightFile}
-use Rattle.night_writing.specs.declared.night.Night.{Night}
+use Rattle.night_batches.specs.declared.night.Night.{Night}
 use Rattle.partner_setup.specs.CountersText.{counters_text}
 use Rattle.partner_setup.specs.Setup.{SetupValue}
 use Rattle.partner_setup.specs.declared.partner.Partner.{Partner}

@@ -18,7 +18,7 @@ use Rattle.night_equal_writing.proofs.ForAbove.{clean_is}
 use Rattle.night_record.specs.declared.addresses.AddressNext.{AddressNext}
 use Rattle.night_report.specs.Clean.{is_clean}
 use Rattle.night_shelf.specs.declared.night.NightFile.{NightFile}
-use Rattle.night_writing.specs.declared.night.Night.{Night}
+use Rattle.night_batches.specs.declared.night.Night.{Night}
 use Rattle.partner_setup.specs.Setup.{SetupValue}
 use Rattle.set_documents.specs.Given.{usual}
 use Rattle.track_definition.specs.Rows.{table_of}

@@ -5,7 +5,7 @@ use Rattle.guide_tree.specs.declared.rows.GuideRows.{GuideRows}
 use Rattle.hub_ledger.specs.declared.entry.NightEntry.{NightEntry}
 use Rattle.night_entries.specs.Entry.{AreCounters, IsSetup}
 use Rattle.night_shelf.specs.declared.night.NightFile.{NightFile}
-use Rattle.night_writing.specs.declared.night.Night.{Night}
+use Rattle.night_batches.specs.declared.night.Night.{Night}
 use Rattle.partner_setup.specs.CountersFile.{counters_of_table}
 use Rattle.partner_setup.specs.Setup.{SetupValue, setup_of}
 use Rattle.partner_setup.specs.SetupFaults.{first_fault}

@@ -8,9 +8,9 @@ ghost use Rattle.night_equal_text.specs.LookedUp.{seen_setup};
 
 use hub_kinds::{Items, Lent, NoMemory, Text, copy_text};
 use mailbox::Woven;
+use night_batches::Night;
 use night_equal_setup::counters_texts_are_one;
 use night_shelf::NightFile;
-use night_writing::Night;
 use partner_setup::{Partner, Setup};
 use std::alloc::Global;
 

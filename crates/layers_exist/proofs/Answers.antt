@@ -10,7 +10,7 @@ use Rattle.guide_tree.specs.declared.rows.GuideRows.{GuideRows}
 use Rattle.guide_tree.specs.Words.{IsAccepted}
 use Rattle.env_index.specs.Words.{GroupEntry, span_of}
 use Rattle.env_index.specs.declared.entry.SetEnvelope.{SetEnvelope}
-use Rattle.judged_text.specs.Judged.{is_fa}
+use Rattle.answered_sets.specs.Judged.{is_fa}
 use Rattle.partner_setup.specs.Names.{and_some, those_at}
 use Rattle.partner_setup.specs.Setup.{SetupValue, guide_for_set, guides_of, is_for_set, places_of}
 use Rattle.set_check.specs.Answer.{answer_to}
@@ -19,11 +19,11 @@ use Rattle.set_check.specs.Codes.{control_of}
 use Rattle.set_check.specs.MeetsLaw.{IsWellGuided}
 use Rattle.set_check.specs.SetFaults.{codes_with}
 use Rattle.set_check.specs.SetParts.{set_parts}
-use Rattle.checked_text.specs.Answers.{AreGroupAnswers, AreSetAnswers, IsGroupAnswered, IsSetAnswer, SentValue, answer_by, codes_where}
-use Rattle.checked_text.specs.Answers.{controls_of, has_number_among}
-use Rattle.checked_text.specs.Seen.{is_among}
-use Rattle.checked_text.specs.declared.answered.AnsweredGroup.{AnsweredGroup}
-use Rattle.checked_text.proofs.ForAbove.{at_index}
+use Rattle.set_answers.specs.Answers.{AreGroupAnswers, AreSetAnswers, IsGroupAnswered, IsSetAnswer, SentValue, answer_by, codes_where}
+use Rattle.set_answers.specs.Answers.{controls_of, has_number_among}
+use Rattle.set_answers.specs.Seen.{is_among}
+use Rattle.set_answers.specs.declared.answered.AnsweredGroup.{AnsweredGroup}
+use Rattle.set_answers.proofs.ForAbove.{at_index}
 use Rattle.accepted_guides.specs.Accepted.{AreGuidesAccepted}
 use Rattle.layers_exist.specs.Laws.{EachGroupHasItsAnswers, EachSetHasItsFaults, FaultyGuidesAnswerNothing}
 use Rattle.layers_exist.proofs.Pairs.{pairs}
@@ -93,8 +93,8 @@ module _ (faults : EachSetHasItsFaults) where
           },
         )
 
-    set_answers : (gs : SegValue) (sets : List SetEnvelope) → (answers : List SetAnswer) × AreSetAnswers sent gs sets answers
-    set_answers gs sets =
+    answers_to_sets : (gs : SegValue) (sets : List SetEnvelope) → (answers : List SetAnswer) × AreSetAnswers sent gs sets answers
+    answers_to_sets gs sets =
         pairs sets (λ n set answer. IsSetAnswer sent gs (take n sets) set answer) (λ n set. set_answer gs (take n sets) set)
 
     group_answer : (before : List GroupEntry) (group : GroupEntry)
@@ -104,7 +104,7 @@ module _ (faults : EachSetHasItsFaults) where
         by : (fa : Bool) → is_fa group ≡ fa → (answered : Option AnsweredGroup) × IsGroupAnswered sent before group answered
         by true is = (None, is)
         by false is =
-            let sets = set_answers group.header group.sets in
+            let sets = answers_to_sets group.header group.sets in
             let answered : AnsweredGroup = record {
               answer = answer_by (codes_where sent (has_number_among before group) group) group sets.0;
               sets = sets.0;

@@ -1,8 +1,8 @@
 -- The definition's night is the night of the layers.
 use Rattle.std.proofs.Common.{◌≡◌, ℕ, List, sym, ap, subst, ◌∙◌}
 use Rattle.hub_kinds.specs.declared.counters.Counters.{Counters}
-use Rattle.night_writing.specs.Night.{IsNight}
-use Rattle.night_writing.specs.declared.night.Night.{Night}
+use Rattle.night_batches.specs.Night.{IsNight}
+use Rattle.night_batches.specs.declared.night.Night.{Night}
 use Rattle.night_law.proofs.ForAbove.{whole_night}
 use Rattle.night_definition.specs.Night as room
 use Rattle.night_equal_text.specs.LookedUp.{seen_setup}

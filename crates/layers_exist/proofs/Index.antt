@@ -8,7 +8,7 @@ use Rattle.x12_segs.specs.Words.{SegValue, kind_of}
 use Rattle.env_index.specs.Words.{Body, ChainFrom, DerivesInterchange, IndexEntry, IndexValue, IsEntryOf, IsIndex}
 use Rattle.env_index.specs.Words.{IsNextHead, count_outside, extents_of, fault_of, interchange_of, reach_at}
 use Rattle.env_index.proofs.ForAbove.{interchange_has_spans, no_head_past}
-use Rattle.batch_cut.proofs.ForAbove.{end_behind}
+use Rattle.whole_interchanges.proofs.ForAbove.{end_behind}
 
 -- whatever is after a header derives a tree
 abbrev pub EachHasATree : Type 0

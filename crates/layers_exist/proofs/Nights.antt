@@ -5,11 +5,11 @@ use Rattle.env_index.specs.Words.{IndexEntry, IndexValue}
 use Rattle.partner_setup.specs.declared.partner.Partner.{Partner}
 use Rattle.partner_setup.specs.Setup.{SetupValue, sender_of}
 use Rattle.night_report.specs.Report.{report_text}
-use Rattle.checked_text.specs.CheckedText.{AreAnswersBy, AreCheckedAs, CheckedInterchange, IsCheckedAs, sent_by}
-use Rattle.checked_text.specs.Settled.{settled_entries}
-use Rattle.checked_text.specs.declared.answered.AnsweredGroup.{AnsweredGroup}
-use Rattle.night_writing.specs.Night.{AreForPartners, IsNight, acks_of, box_of, judgements, next_of}
-use Rattle.night_writing.specs.declared.night.Night.{Night}
+use Rattle.set_answers.specs.CheckedText.{AreAnswersBy, AreCheckedAs, CheckedInterchange, IsCheckedAs, sent_by}
+use Rattle.set_answers.specs.Settled.{settled_entries}
+use Rattle.set_answers.specs.declared.answered.AnsweredGroup.{AnsweredGroup}
+use Rattle.night_batches.specs.Night.{AreForPartners, IsNight, acks_of, box_of, judgements, next_of}
+use Rattle.night_batches.specs.declared.night.Night.{Night}
 use Rattle.accepted_guides.specs.Accepted.{AreGuidesAccepted}
 use Rattle.layers_exist.specs.Laws.{EachGroupHasItsAnswers, EachTextHasANight, EachTextHasAnIndex}
 use Rattle.layers_exist.proofs.Pairs.{pairs}

@@ -1,7 +1,7 @@
 -- If each item has another that belongs to it, a list has a list of those.
 use Rattle.std.proofs.Common.{◌≡◌, ℕ, zero, suc, List, [], ◌∷◌, Some, refl, ap, subst}
 use Rattle.std.specs.Prelude.{slice_get}
-use Rattle.checked_text.specs.Pairs.{AreAllPairs, ArePairs}
+use Rattle.set_answers.specs.Pairs.{AreAllPairs, ArePairs}
 
 pub pairs : {A B : Type 0} (xs : List A) (R : ℕ → A → B → Type 0) → ((n : ℕ) (x : A) → (y : B) × R n x y)
     → (ys : List B) × AreAllPairs R xs ys

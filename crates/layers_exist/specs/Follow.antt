@@ -3,8 +3,8 @@ use Rattle.std.specs.Prelude.{◌↔◌, ℕ, List}
 use Rattle.moment.specs.Moment.{IsMoment}
 use Rattle.partner_setup.specs.Setup.{SetupValue}
 use Rattle.partner_setup.specs.Sound.{IsSoundSetup}
-use Rattle.night_writing.specs.Night.{IsNight}
-use Rattle.night_writing.specs.declared.night.Night.{Night}
+use Rattle.night_batches.specs.Night.{IsNight}
+use Rattle.night_batches.specs.declared.night.Night.{Night}
 use Rattle.night_law.specs.WholeNight.{IsWholeNight}
 use Rattle.night_definition.specs.Night.{night_of}
 use Rattle.night_definition.specs.ReadBack as defined

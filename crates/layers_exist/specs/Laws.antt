@@ -13,10 +13,10 @@ use Rattle.accepted_guides.specs.Accepted.{AreGuidesAccepted}
 use Rattle.set_check.specs.Checked.{guide_tree_of}
 use Rattle.set_check.specs.SetFaults.{AreSetFaults}
 use Rattle.set_check.specs.SetParts.{SetParts}
-use Rattle.checked_text.specs.Answers.{AreGroupAnswers, IsSetAnswer, SentValue}
-use Rattle.checked_text.specs.declared.answered.AnsweredGroup.{AnsweredGroup}
-use Rattle.night_writing.specs.Night.{IsNight}
-use Rattle.night_writing.specs.declared.night.Night.{Night}
+use Rattle.set_answers.specs.Answers.{AreGroupAnswers, IsSetAnswer, SentValue}
+use Rattle.set_answers.specs.declared.answered.AnsweredGroup.{AnsweredGroup}
+use Rattle.night_batches.specs.Night.{IsNight}
+use Rattle.night_batches.specs.declared.night.Night.{Night}
 
 -- the interchanges of a text, each read as a tree of envelopes, with its fault
 abbrev pub EachTextHasAnIndex : Type 0

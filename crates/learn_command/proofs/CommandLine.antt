@@ -4,8 +4,8 @@ use Rattle.clap.specs.Words.{HasMatchesOf, Text, first_value, found_of, is_simpl
 use Rattle.clap.specs.declared.parser.matches.ArgMatches.{ArgMatches}
 use Rattle.clap.proofs.OnLiterals.{clap_on_literals}
 use Rattle.std.specs.declared.alloc.Global.{Global}
-use Rattle.night_ends.specs.Words.{or_none, values_found}
-use Rattle.night_ends.proofs.ForAbove.{all_found, found}
+use Rattle.system_io.specs.Words.{or_none, values_found}
+use Rattle.system_io.proofs.ForAbove.{all_found, found}
 use Rattle.program_frame.specs.Arguments.{value_in, values_in}
 use Rattle.program_frame.specs.Matching.{AsksForText}
 use Rattle.learn_command.specs.CommandLine.{AreOptions, IsAsked, IsGiven, NamesNone, learn_app}

@@ -1,7 +1,7 @@
 -- The command line (own), read as clap's definitions say: guides that are known, the sets that are asked for, and sample files.
 use Rattle.std.specs.Prelude.{◌≡◌, ◌≢◌, List, [], map, Option, true, codes, option_map}
 use Rattle.clap.specs.Words.{App, Text, takes, with_rule}
-use Rattle.night_ends.specs.Words.{or_none}
+use Rattle.system_io.specs.Words.{or_none}
 use Rattle.program_frame.specs.Arguments.{option_free, option_repeated, program, value_in, values_in, words}
 use Rattle.program_frame.specs.Matching.{AsksForText}
 use Rattle.learn_command.specs.declared.command.Asked.{Asked}

@@ -3,10 +3,10 @@ ghost use Rattle.std.specs.Io.KnownBytes.{Appends};
 ghost use Rattle.learn_command.specs.Failure.{line_of, status_of};
 
 use hub_kinds::{NoMemory, Text};
-use night_ends::print_text;
 use program_frame::Reported;
 use std::alloc::AllocError;
 use std::io::Write;
+use system_io::print_text;
 
 /// Why a run failed.
 #[derive(Debug, Drop)]

@@ -21,9 +21,11 @@ pub(crate) fn too_long(alloc: Global) -> Result<Text, NoMemory> {
 /// The first fault of a set, or the first code of a set without faults.
 pub(crate) fn why_unmet(alloc: Global, set: &CheckedSet) -> Result<Text, NoMemory> {
     let mut words = Vec::new(alloc);
-    match set.faults() {
-        [fault, ..] => append_fault(&mut words, fault)?,
-        [] => append_code(&mut words, set)?,
+    let faults = set.faults();
+    if faults.is_empty() {
+        append_code(&mut words, set)?;
+    } else {
+        append_fault(&mut words, &faults.at(0))?;
     }
     Ok(Items::from_vec(words))
 }

@@ -5,7 +5,7 @@ ghost use Rattle.x12_segs.specs.Words.{elements_of};
 
 use crate::next_place::NextPlace;
 use guide_tree::Node;
-use hub_kinds::{Fault, Lent, NO_NUMBER, NoMemory, SegmentCode};
+use hub_kinds::{Fault, Faults, Lent, NO_NUMBER, NoMemory, SegmentCode};
 use std::alloc::Global;
 use std::marker::Model;
 use x12_segs::SegView;
@@ -13,7 +13,7 @@ use x12_segs::SegView;
 /// The structural faults that were found so far, in the order in which they were found. Contracts see their list.
 #[derive(Drop)]
 pub struct Found<'a> {
-    faults: Vec<Fault<'a>>,
+    faults: Faults<'a>,
 }
 
 impl<'a> Model for Found<'a> {
@@ -22,7 +22,7 @@ impl<'a> Model for Found<'a> {
 
     ghost Value = { List Fault };
 
-    ghost view = { λ f. f.faults.items };
+    ghost view = { λ f. f.faults };
 }
 
 impl<'a> Found<'a> {
@@ -31,7 +31,7 @@ impl<'a> Found<'a> {
         ensures { result ≡ [] }
     {
         Found {
-            faults: Vec::new(alloc),
+            faults: Faults::new(alloc),
         }
     }
 
@@ -122,8 +122,8 @@ impl<'a> Found<'a> {
     }
 
     /// The faults, as a list.
-    pub fn into_faults(self) -> Vec<Fault<'a>>
-        ensures { result.items ≡ self.entry }
+    pub fn into_faults(self) -> Faults<'a>
+        ensures { result ≡ self.entry }
     {
         self.faults
     }

@@ -11,7 +11,7 @@ use crate::next_place::{ByNodes, NextPlace};
 use crate::pass::pass_all;
 use crate::walk::Walk;
 use guide_tree::{Guide, Slot};
-use hub_kinds::{Fault, Items, NoMemory, in_order};
+use hub_kinds::{Faults, NoMemory};
 use std::alloc::Global;
 use std::marker::Model;
 use x12_segs::SegView;
@@ -20,7 +20,7 @@ use x12_segs::SegView;
 #[derive(Drop)]
 pub struct Placing<'a> {
     walk: Walk<'a>,
-    faults: Vec<Fault<'a>>,
+    faults: Faults<'a>,
 }
 
 impl<'a> Model for Placing<'a> {
@@ -31,7 +31,7 @@ impl<'a> Model for Placing<'a> {
 
     ghost Value = { Placed };
 
-    ghost view = { λ p. record { given = marks_view p.walk.steps.items p.walk.marks.items; faults = p.faults.items } };
+    ghost view = { λ p. record { given = marks_view p.walk.steps.items p.walk.marks.items; faults = p.faults } };
 
     ghost invariant = { λ p. AllByRecursion (λ m. m.start + m.depth ≤ length p.walk.steps.items) p.walk.marks.items };
 }
@@ -72,17 +72,17 @@ impl<'a> Placing<'a> {
     }
 
     /// The structural faults by position, code and slot; a position is a segment's number in the set, ST being 1.
-    pub fn faults(&self) -> &[Fault<'a>]
+    pub fn faults(&self) -> &Faults<'a>
         ensures { result.now ≡ self.now.faults }
     {
-        self.faults.as_slice()
+        &self.faults
     }
 
     /// The faults, given away.
-    pub fn into_faults(self) -> Items<Fault<'a>>
+    pub fn into_faults(self) -> Faults<'a>
         ensures { result ≡ self.entry.faults }
     {
-        Items::from_vec(self.faults)
+        self.faults
     }
 }
 
@@ -107,7 +107,7 @@ pub fn place_by<'a, 'g: 'a, N: NextPlace<'g>>(
     let pass = pass_all(alloc, segs, next)?;
     Ok(Placing {
         walk: pass.walk,
-        faults: in_order(pass.found.into_faults()),
+        faults: pass.found.into_faults().in_order(),
     })
 }
 

@@ -5,7 +5,7 @@ use Rattle.std.specs.Prelude.{slice_get, count_by}
 use Rattle.std.specs.List.{filter, flat_map, list_any}
 use Rattle.std.proofs.lemmas.List.Elements.{All-nil, All-cons, All-head, All-tail}
 use Rattle.std.proofs.lemmas.List.Sums.{sum_by-cons}
-use Rattle.judged_text.specs.Judged.{PlacedValue, all_sets}
+use Rattle.answered_sets.specs.Judged.{PlacedValue, all_sets}
 use Rattle.partner_setup.specs.Setup.{SetupValue}
 use Rattle.partner_setup.specs.Sound.{AreApart, AreWithin}
 use Rattle.partner_setup.proofs.ForAbove.{targets_apart, targets_within}

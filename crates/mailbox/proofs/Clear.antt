@@ -4,8 +4,8 @@ use Rattle.std.specs.List.{list_any}
 use Rattle.x12_bytes.specs.declared.delims.Delims.{Delims}
 use Rattle.x12_segs.specs.Words.{SegValue}
 use Rattle.mailbox.specs.Blocking.{AllShared}
-use Rattle.mailbox.specs.Deliveries.{inner_in, is_blocked, is_in_the_way, is_text_in_the_way, kept_parts}
-use Rattle.judged_text.specs.Judged.{PlacedValue, delims_in}
+use Rattle.mailbox.specs.Deliveries.{inner_in, is_blocked, collides, has_collision, kept_parts}
+use Rattle.answered_sets.specs.Judged.{PlacedValue, delims_in}
 
 none_passes : {A : Type 0} (p : A → Bool) (xs : List A) → ((x : A) → p x ≡ false) → list_any p xs ≡ false
 none_passes p [] h = refl
@@ -13,7 +13,7 @@ none_passes p (x ∷ xs) h = ap (λ (b : Bool). b || list_any p xs) (h x) ∙ no
 
 pub nothing_blocked : (to : Delims) (p : PlacedValue) → AllShared (delims_in p) to → is_blocked to p ≡ false
 nothing_blocked to p h =
-    let text = λ (bytes : List ℕ). none_passes (is_in_the_way (delims_in p) to) bytes h in
-    ap (λ (b : Bool). b || list_any (λ seg. is_text_in_the_way (delims_in p) to seg.bytes) (inner_in p))
-    (none_passes (is_text_in_the_way (delims_in p) to) (kept_parts p.set.header) text)
-    ∙ none_passes (λ (seg : SegValue). is_text_in_the_way (delims_in p) to seg.bytes) (inner_in p) (λ seg. text seg.bytes)
+    let text = λ (bytes : List ℕ). none_passes (collides (delims_in p) to) bytes h in
+    ap (λ (b : Bool). b || list_any (λ seg. has_collision (delims_in p) to seg.bytes) (inner_in p))
+    (none_passes (has_collision (delims_in p) to) (kept_parts p.set.header) text)
+    ∙ none_passes (λ (seg : SegValue). has_collision (delims_in p) to seg.bytes) (inner_in p) (λ seg. text seg.bytes)

@@ -9,7 +9,7 @@ use Rattle.guide_tree.proofs.rows.GuideHead.TheSendSync as head
 use Rattle.guide_tree.proofs.rows.HlRule.TheSendSync as hl
 use Rattle.guide_tree.proofs.slot.Slot.TheSendSync as slot
 use Rattle.guide_tree.specs.contracts.guide.Guide as guide
-use Rattle.judged_text.specs.contracts.judged.JudgedInterchange as judged
+use Rattle.answered_sets.specs.contracts.judged.JudgedInterchange as judged
 use Rattle.partner_setup.specs.contracts.setup.Setup as setup
 use Rattle.std.proofs.Crossing.{crosses}
 use Rattle.std.proofs.MapsCrossing as maps

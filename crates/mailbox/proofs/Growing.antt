@@ -1,24 +1,22 @@
 -- The lists of delivered sets, with a receiver, a set, a group and an interchange more.
 use Rattle.std.proofs.Common.{◌≡◌, ℕ, ◌+◌, Bool, true, false, cond, not, ◌&&◌, List, [], ◌∷◌, ◌++◌, Some, length}
-use Rattle.std.proofs.Common.{replicate, take, refl, sym, ap, subst, ◌∙◌, arith, append_assoc, append-nil}
+use Rattle.std.proofs.Common.{replicate, refl, sym, ap, subst, ◌∙◌, arith, append_assoc, append-nil}
 use Rattle.std.specs.Prelude.{slice_get}
 use Rattle.std.specs.List.{filter, list_any}
 use Rattle.std.proofs.Math.Bool.{and-false}
-use Rattle.std.proofs.lemmas.List.{length-replicate, length-take-le}
-use Rattle.std.proofs.lemmas.List.Concat.{flat_map-append}
+use Rattle.std.proofs.lemmas.List.{length-replicate}
 use Rattle.std.proofs.lemmas.List.Elements.{filter-append}
-use Rattle.std.proofs.lemmas.Option.{slice_get_within}
 use Rattle.x12_segs.specs.Words.{element_of}
 use Rattle.env_index.specs.declared.entry.SetEnvelope.{SetEnvelope}
 use Rattle.env_index.specs.Words.{GroupEntry}
 use Rattle.partner_setup.specs.Setup.{SetupValue, route_of}
-use Rattle.judged_text.specs.declared.standing.GroupStanding.{GroupStanding}
+use Rattle.answered_sets.specs.declared.standing.GroupStanding.{GroupStanding}
 use Rattle.mailbox.specs.Deliveries.{AreDelivered, is_not_rejected, is_deliverable, is_delivered_to, is_delivery_to, outcomes_on}
-use Rattle.mailbox.specs.Delivering.{HasGrown, HasSent, HasTaken, is_sent_by, may_leave}
-use Rattle.judged_text.specs.Judged.{JudgedValue, PlacedValue, all_sets, sets_of_groups_from, is_fa, is_refused, sets_from, sets_of}
-use Rattle.judged_text.specs.Judged.{standing_at}
-use Rattle.judged_text.specs.Judged.{verdict_by_standing}
-use Rattle.mailbox.proofs.Replacing.{get_replicated, take_one_more}
+use Rattle.mailbox.specs.Delivering.{HasGrown, HasTaken, is_sent_by, is_group_deliverable}
+use Rattle.answered_sets.specs.Judged.{JudgedValue, PlacedValue, all_sets, sets_of_groups_from, is_fa, is_refused, sets_from}
+use Rattle.answered_sets.specs.Judged.{standing_at}
+use Rattle.answered_sets.specs.Judged.{verdict_by_standing}
+use Rattle.mailbox.proofs.Replacing.{get_replicated}
 
 abbrev pub Lists : Type 0
 Lists = List (List PlacedValue)
@@ -65,38 +63,19 @@ and_assoc : (a b c d : Bool) → (a && b && c && d) ≡ (a && (b && c && d))
 and_assoc true b c d = refl
 and_assoc false b c d = refl
 
-as_group : (p : PlacedValue) → is_deliverable p ≡ (is_not_rejected (verdict_by_standing p) && may_leave p.interchange p.standing p.group)
+as_group : (p : PlacedValue)
+    → is_deliverable p ≡ (is_not_rejected (verdict_by_standing p) && is_group_deliverable p.interchange p.standing p.group)
 as_group p = and_assoc (is_not_rejected (verdict_by_standing p)) p.standing.clear (not (is_fa p.group)) (not (is_refused p.interchange))
-
--- a set that isn't accepted
-pub taken_rejected : (setup : SetupValue) (p : PlacedValue) (lists : Lists) → is_not_rejected (verdict_by_standing p) ≡ false
-    → HasTaken setup (p ∷ []) lists lists
-taken_rejected setup p lists is = grown_none _ lists (λ q.
-    ap (λ (b : Bool). cond b (p ∷ []) []) (not_delivered setup q p
-    (as_group p ∙ ap (λ (b : Bool). b && may_leave p.interchange p.standing p.group) is)))
 
 pub by_route : (setup : SetupValue) (q : ℕ) (p : PlacedValue) (route : List ℕ)
     → is_sent_by setup p q route ≡ list_any (is_delivery_to q) (outcomes_on setup p route)
 by_route setup q p [] = refl
 by_route setup q p (t ∷ ts) = refl
 
--- a set that was sent to its route
-pub taken_sent : (setup : SetupValue) (p : PlacedValue) (route : List ℕ) (a b : Lists) → may_leave p.interchange p.standing p.group ≡ true
-    → is_not_rejected (verdict_by_standing p) ≡ true → route ≡ route_of setup (element_of p.group.header 3)
-    → HasSent setup p route a b → HasTaken setup (p ∷ []) a b
-taken_sent setup p route a b leaves accepted is sent =
-    let deliverable : is_deliverable p ≡ true = as_group p
-    ∙ ap (λ (c : Bool). c && may_leave p.interchange p.standing p.group) accepted ∙ leaves in
-    grown_as _ _ a b (λ q. ap (λ (c : Bool). cond c (p ∷ []) []) (by_route setup q p route
-    ∙ ap (λ (ts : List ℕ). list_any (is_delivery_to q) (outcomes_on setup p ts)) is
-    ∙ sym (ap (λ (c : Bool). list_any (is_delivery_to q) (cond c
-    (outcomes_on setup p (route_of setup (element_of p.group.header 3))) [])) deliverable)))
-    sent
-
 -- a set of a group that no set may leave
 pub nothing_leaves : (setup : SetupValue) (q : ℕ) (x : JudgedValue) (g : GroupEntry) (standing : GroupStanding) (n : ℕ)
     (sets : List SetEnvelope)
-    → may_leave x standing g ≡ false → filter (is_delivered_to setup q) (sets_from x g standing n sets) ≡ []
+    → is_group_deliverable x standing g ≡ false → filter (is_delivered_to setup q) (sets_from x g standing n sets) ≡ []
 nothing_leaves setup q x g standing n [] stay = refl
 nothing_leaves setup q x g standing n (set ∷ sets) stay =
     let p : PlacedValue = record { interchange = x; group = g; standing = standing; index = n; set = set } in
@@ -105,10 +84,6 @@ nothing_leaves setup q x g standing n (set ∷ sets) stay =
     (not_delivered setup q p (as_group p ∙ ap (λ (b : Bool). is_not_rejected (verdict_by_standing p) && b) stay
     ∙ and-false (is_not_rejected (verdict_by_standing p))))
     ∙ nothing_leaves setup q x g standing (n + 1) sets stay
-
-pub taken_stayed : (setup : SetupValue) (x : JudgedValue) (g : GroupEntry) (standing : GroupStanding) (lists : Lists)
-    → may_leave x standing g ≡ false → HasTaken setup (sets_from x g standing 0 g.sets) lists lists
-taken_stayed setup x g standing lists stay = grown_none _ lists (λ q. nothing_leaves setup q x g standing 0 g.sets stay)
 
 pub sets_snoc : (x : JudgedValue) (g : GroupEntry) (standing : GroupStanding) (n m : ℕ) (sets : List SetEnvelope) (set : SetEnvelope)
     → n + length sets ≡ m → sets_from x g standing n (sets ++ set ∷ [])
@@ -136,43 +111,6 @@ groups_snoc x n m (h ∷ groups) g is =
     (groups_snoc x (n + 1) m groups g (omega (arith, is)))
     ∙ sym (append_assoc (sets_from x h (standing_at x.standings n) 0 h.sets) (sets_of_groups_from x (n + 1) groups)
     (sets_from x g (standing_at x.standings m) 0 g.sets))
-
--- one set more of a group
-pub set_taken : (setup : SetupValue) (x : JudgedValue) (g : GroupEntry) (standing : GroupStanding) (i : ℕ) (set : SetEnvelope)
-    (p : PlacedValue)
-    (a b c : Lists) → slice_get g.sets i ≡ Some set
-    → p ≡ record { interchange = x; group = g; standing = standing; index = i; set = set }
-    → HasTaken setup (sets_from x g standing 0 (take i g.sets)) a b → HasTaken setup (p ∷ []) b c
-    → HasTaken setup (sets_from x g standing 0 (take (i + 1) g.sets)) a c
-set_taken setup x g standing i set p a b c there is before next =
-    taken_as setup _ _ a c
-    (ap (λ (q : PlacedValue). sets_from x g standing 0 (take i g.sets) ++ q ∷ []) is
-    ∙ sym (sets_snoc x g standing 0 i (take i g.sets) set
-    (omega (arith, length-take-le i g.sets (omega (arith, slice_get_within g.sets i set there)))))
-    ∙ ap (sets_from x g standing 0) (sym (take_one_more g.sets i set there)))
-    (taken_more setup (sets_from x g standing 0 (take i g.sets)) (p ∷ []) a b c before next)
-
--- one group more of an interchange
-pub group_taken : (setup : SetupValue) (x : JudgedValue) (i : ℕ) (g : GroupEntry) (a b c : Lists)
-    → slice_get x.interchange.content.groups i ≡ Some g
-    → HasTaken setup (sets_of_groups_from x 0 (take i x.interchange.content.groups)) a b
-    → HasTaken setup (sets_from x g (standing_at x.standings i) 0 g.sets) b c
-    → HasTaken setup (sets_of_groups_from x 0 (take (i + 1) x.interchange.content.groups)) a c
-group_taken setup x i g a b c there before next =
-    let groups : List GroupEntry = x.interchange.content.groups in
-    taken_as setup _ _ a c
-    (sym (groups_snoc x 0 i (take i groups) g (omega (arith, length-take-le i groups (omega (arith, slice_get_within groups i g there)))))
-    ∙ ap (sets_of_groups_from x 0) (sym (take_one_more groups i g there)))
-    (taken_more setup (sets_of_groups_from x 0 (take i groups)) (sets_from x g (standing_at x.standings i) 0 g.sets) a b c before next)
-
--- one interchange more
-pub interchange_taken : (setup : SetupValue) (xs : List JudgedValue) (i : ℕ) (x : JudgedValue) (a b c : Lists) → slice_get xs i ≡ Some x
-    → HasTaken setup (all_sets (take i xs)) a b → HasTaken setup (sets_of x) b c → HasTaken setup (all_sets (take (i + 1) xs)) a c
-interchange_taken setup xs i x a b c there before next =
-    taken_as setup _ _ a c
-    (sym (ap all_sets (take_one_more xs i x there) ∙ flat_map-append sets_of (take i xs) (x ∷ [])
-    ∙ ap (λ (ps : List PlacedValue). all_sets (take i xs) ++ ps) (append-nil (sets_of x))))
-    (taken_more setup (all_sets (take i xs)) (sets_of x) a b c before next)
 
 -- lists that began empty
 pub all_delivered : (setup : SetupValue) (xs : List JudgedValue) (first lists : Lists) → first ≡ replicate (length setup.partners) []

@@ -6,7 +6,7 @@ use Rattle.std.specs.List.{filter}
 use Rattle.std.proofs.lemmas.List.Concat.{flat_map-append}
 use Rattle.std.proofs.lemmas.List.Elements.{filter-append}
 use Rattle.std.proofs.lemmas.Option.{get_or_from_slice_get}
-use Rattle.judged_text.specs.Judged.{JudgedValue, PlacedValue, all_sets, sets_of}
+use Rattle.answered_sets.specs.Judged.{JudgedValue, PlacedValue, all_sets, sets_of}
 use Rattle.partner_setup.specs.Setup.{SetupValue}
 use Rattle.mailbox.specs.Deliveries.{AreDelivered, delivered_to, is_delivered_to}
 use Rattle.mailbox.specs.Delivering.{HasGrown}

@@ -1,5 +1,6 @@
 pub mod Accounting
 pub mod BoxTexts
+pub mod ByOutcomes
 pub mod Clear
 pub mod Crossing
 pub mod ForAbove

@@ -3,7 +3,7 @@ use Rattle.std.proofs.Common.{◌≡◌, ℕ, List, [], ◌∷◌, Bool, false, 
 use Rattle.std.specs.Prelude.{◌==◌, drop, slice_index_or}
 use Rattle.std.specs.List.{list_any, remove}
 use Rattle.x12_segs.specs.Words.{SegValue, elements_of, id_of}
-use Rattle.judged_text.proofs.ForAbove.{neither, nor, none_divided}
+use Rattle.answered_sets.proofs.ForAbove.{neither, nor, none_divided}
 use Rattle.mailbox.specs.Deliveries.{kept_parts}
 
 none_first : {X : Type 0} (p : List X → Bool) (list : List (List X)) → p [] ≡ false → list_any p list ≡ false

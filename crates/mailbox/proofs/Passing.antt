@@ -11,8 +11,8 @@ use Rattle.memchr.specs.Find.{IsFirstByte, is_byte}
 use Rattle.x12_bytes.specs.declared.delims.Delims.{Delims}
 use Rattle.x12_write.specs.Delimiters.{is_delimiter, is_this}
 use Rattle.mailbox.specs.Blocking.{is_foreign, is_foreign_if}
-use Rattle.mailbox.specs.Deliveries.{is_in_the_way, is_text_in_the_way}
-use Rattle.judged_text.proofs.ForAbove.{neither, nor}
+use Rattle.mailbox.specs.Deliveries.{collides, has_collision}
+use Rattle.answered_sets.proofs.ForAbove.{neither, nor}
 
 clear : (own e c t r : Bool) → (not own && e) ≡ false → (not own && c) ≡ false → (not own && t) ≡ false → (not own && r) ≡ false
     → (not own && (e || c || t || r)) ≡ false
@@ -21,14 +21,14 @@ clear false e c t r he hc ht hr = nor (e || c || t) r (nor (e || c) t (nor e c h
 
 pub all_clear : (from to : Delims) (text : List ℕ) → list_any (is_foreign from to.element) text ≡ false
     → list_any (is_foreign from to.component) text ≡ false → list_any (is_foreign from to.terminator) text ≡ false
-    → list_any (is_foreign_if from to.repetition) text ≡ false → is_text_in_the_way from to text ≡ false
+    → list_any (is_foreign_if from to.repetition) text ≡ false → has_collision from to text ≡ false
 all_clear from to [] he hc ht hr = refl
 all_clear from to (b ∷ text) he hc ht hr =
     let e = neither (is_foreign from to.element b) (list_any (is_foreign from to.element) text) he in
     let c = neither (is_foreign from to.component b) (list_any (is_foreign from to.component) text) hc in
     let t = neither (is_foreign from to.terminator b) (list_any (is_foreign from to.terminator) text) ht in
     let r = neither (is_foreign_if from to.repetition b) (list_any (is_foreign_if from to.repetition) text) hr in
-    nor (is_in_the_way from to b) (list_any (is_in_the_way from to) text)
+    nor (collides from to b) (list_any (collides from to) text)
     (clear (is_delimiter from b) (b == to.element) (b == to.component) (b == to.terminator) (is_this to.repetition b) e.0 c.0 t.0 r.0)
     (all_clear from to text e.1 c.1 t.1 r.1)
 

@@ -11,7 +11,7 @@ use Rattle.partner_setup.specs.Setup.{SetupValue}
 use Rattle.x12_write.specs.Group.{group_text}
 use Rattle.x12_write.specs.Header.{header_text}
 use Rattle.x12_write.specs.Trailer.{trailer_text}
-use Rattle.judged_text.specs.Judged.{PlacedValue}
+use Rattle.answered_sets.specs.Judged.{PlacedValue}
 use Rattle.mailbox.specs.Mailbox as box
 use Rattle.mailbox.specs.Numbered as plain
 use Rattle.mailbox.specs.Numbered.{NumberedValue, numbered_from, group_key_of}

@@ -9,7 +9,7 @@ use Rattle.std.specs.List.{All}
 use Rattle.std.specs.Prelude.{slice_range}
 use Rattle.count_numbers.specs.Num.{num}
 use Rattle.partner_setup.specs.declared.partner.Partner.{Partner}
-use Rattle.judged_text.specs.Judged.{PlacedValue}
+use Rattle.answered_sets.specs.Judged.{PlacedValue}
 use Rattle.mailbox.specs.Kept.{StandsIn, kept_as, kept_in}
 use Rattle.mailbox.specs.Mailbox.{set_text}
 use Rattle.mailbox.specs.Numbered.{group_key_of}

@@ -7,7 +7,7 @@ use Rattle.std.specs.List.{All, AllZip, flat_map, range_with_len}
 use Rattle.std.specs.Prelude.{slice_get, slice_range}
 use Rattle.job_pool.proofs.ForAbove.{gathered, numbered}
 use Rattle.partner_setup.specs.declared.partner.Partner.{Partner}
-use Rattle.judged_text.specs.Judged.{PlacedValue}
+use Rattle.answered_sets.specs.Judged.{PlacedValue}
 use Rattle.mailbox.specs.Parts.{AreParts, rendered_part}
 use Rattle.mailbox.specs.Rendered.{RenderedValue, rendered, rendered_from}
 use Rattle.mailbox.specs.declared.parts.Part.{Part}

@@ -8,7 +8,7 @@ use Rattle.count_numbers.specs.declared.run.Run.{Run}
 use Rattle.count_numbers.specs.declared.run.RunKey.{RunKey}
 use Rattle.count_numbers.specs.Layout.{in_interchange, interchange_count, interchanges_of, layout_of}
 use Rattle.count_numbers.specs.Runs.{onto_runs, runs_of, same_key, single, together}
-use Rattle.judged_text.specs.Judged.{PlacedValue}
+use Rattle.answered_sets.specs.Judged.{PlacedValue}
 use Rattle.mailbox.specs.Mailbox.{groups_within}
 use Rattle.mailbox.specs.Numbered.{NumberedValue, goes_with, groups_of, group_key_of, numbered_from, onto_groups}
 use Rattle.mailbox.specs.Tallied.{GroupsAreCounted, GroupsAreLaidOut, GroupsAreRuns, run_of, runs_in}

@@ -9,7 +9,7 @@ use Rattle.std.proofs.lemmas.Bool.{cases_lt}
 use Rattle.std.proofs.lemmas.Option.{slice_get_within}
 use Rattle.partner_setup.specs.declared.partner.Partner.{Partner}
 use Rattle.partner_setup.specs.Setup.{SetupValue}
-use Rattle.judged_text.specs.Judged.{JudgedValue, PlacedValue}
+use Rattle.answered_sets.specs.Judged.{JudgedValue, PlacedValue}
 use Rattle.mailbox.specs.Deliveries.{AreDelivered, delivered_to}
 use Rattle.mailbox.specs.Mailbox.{box_text, group_total}
 use Rattle.mailbox.specs.Rendered.{HaveRendered, RenderedValue, box_of_rendered, groups_of_rendered, rendered, rendered_from}

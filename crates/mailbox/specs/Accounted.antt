@@ -2,7 +2,7 @@
 -- is delivered twice.
 use Rattle.std.specs.Prelude.{ℕ, ◌≡◌, ◌≢◌, ◌+◌, ◌<◌, ◌==◌, Bool, true, false, List, [], ◌∷◌, length, All, count_by, if◌then◌else◌}
 use Rattle.std.specs.List.{flat_map}
-use Rattle.judged_text.specs.Judged.{JudgedValue, PlacedValue, all_sets}
+use Rattle.answered_sets.specs.Judged.{JudgedValue, PlacedValue, all_sets}
 use Rattle.partner_setup.specs.Setup.{SetupValue, route_of}
 use Rattle.partner_setup.specs.Sound.{IsSoundSetup}
 use Rattle.x12_segs.specs.Words.{element_of}

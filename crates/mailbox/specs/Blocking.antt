@@ -2,11 +2,11 @@
 use Rattle.std.specs.Prelude.{ℕ, ◌≡◌, ◌==◌, ◌&&◌, Bool, false, not, Option}
 use Rattle.x12_bytes.specs.declared.delims.Delims.{Delims}
 use Rattle.x12_write.specs.Delimiters.{is_delimiter, is_this}
-use Rattle.mailbox.specs.Deliveries.{is_in_the_way}
+use Rattle.mailbox.specs.Deliveries.{collides}
 
 -- each delimiter of the receiver is one where the set comes from
 abbrev pub AllShared : (from to : Delims) → Type 0
-AllShared from to = (b : ℕ) → is_in_the_way from to b ≡ false
+AllShared from to = (b : ℕ) → collides from to b ≡ false
 
 -- this byte, where it isn't a delimiter where the set comes from
 abbrev pub is_foreign : (from : Delims) → ℕ → ℕ → Bool

@@ -11,7 +11,7 @@ use Rattle.partner_setup.specs.declared.partner.Partner.{Partner}
 use Rattle.partner_setup.specs.Setup.{SetupValue, route_of}
 use Rattle.mailbox.specs.declared.outcome.Outcome.{Outcome}
 use Rattle.mailbox.specs.declared.outcome.Outcome.TheVariants.{DeliveredTo, HeldForDelimiter, HeldForRoute}
-use Rattle.judged_text.specs.Judged.{PlacedValue, JudgedValue, all_sets, delims_in, is_fa, is_refused, segments_in, verdict_by_standing}
+use Rattle.answered_sets.specs.Judged.{PlacedValue, JudgedValue, all_sets, delims_in, is_fa, is_refused, segments_in, verdict_by_standing}
 
 -- A or E
 abbrev pub is_not_rejected : Verdict → Bool
@@ -25,12 +25,12 @@ is_deliverable p =
     is_not_rejected (verdict_by_standing p) && p.standing.clear && not (is_fa p.group) && not (is_refused p.interchange)
 
 -- a byte that isn't a delimiter where it comes from, and one where it goes to
-abbrev pub is_in_the_way : Delims → Delims → ℕ → Bool
-is_in_the_way from to b = not (is_delimiter from b) && is_delimiter to b
+abbrev pub collides : Delims → Delims → ℕ → Bool
+collides from to b = not (is_delimiter from b) && is_delimiter to b
 
 -- such a byte in a text
-abbrev pub is_text_in_the_way : Delims → Delims → List ℕ → Bool
-is_text_in_the_way from to text = list_any (is_in_the_way from to) text
+abbrev pub has_collision : Delims → Delims → List ℕ → Bool
+has_collision from to text = list_any (collides from to) text
 
 -- what is kept of ST: its id, and its elements but ST02
 abbrev pub kept_parts : SegValue → List (List ℕ)
@@ -47,8 +47,8 @@ inner_in p = take (inner_count p) (drop 1 (segments_in p))
 -- in what is kept of a set, its SE left aside, there is such a byte
 abbrev pub is_blocked : (to : Delims) → PlacedValue → Bool
 is_blocked to p =
-    list_any (is_text_in_the_way (delims_in p) to) (kept_parts p.set.header)
-    || list_any (λ seg. is_text_in_the_way (delims_in p) to seg.bytes) (inner_in p)
+    list_any (has_collision (delims_in p) to) (kept_parts p.set.header)
+    || list_any (λ seg. has_collision (delims_in p) to seg.bytes) (inner_in p)
 
 -- the outcome of a set that may be delivered, for a receiver of its route; a set whose receiver isn't there has none
 abbrev pub outcome_by : Option Partner → PlacedValue → ℕ → Outcome
@@ -65,6 +65,10 @@ outcomes_on setup p (to ∷ more) = map (outcome_at setup p) (to ∷ more)
 -- the outcome of a set, for each receiver of its route (GS03): nothing of one that may not be delivered
 abbrev pub outcomes : SetupValue → PlacedValue → List Outcome
 outcomes setup p = if is_deliverable p then outcomes_on setup p (route_of setup (element_of p.group.header 3)) else []
+
+-- those of sets, one after the other
+abbrev pub outcomes_of : SetupValue → List PlacedValue → List (List Outcome)
+outcomes_of setup ps = map (outcomes setup) ps
 
 abbrev pub is_delivery_to : ℕ → Outcome → Bool
 is_delivery_to partner (DeliveredTo to) = to == partner

@@ -7,6 +7,7 @@ pub mod Kept
 pub mod Mailbox
 pub mod Numbered
 pub mod Numbers
+pub mod Outcomes
 pub mod Parts
 pub mod Gapless
 pub mod Read

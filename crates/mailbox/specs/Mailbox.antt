@@ -14,11 +14,11 @@ use Rattle.x12_write.specs.declared.group.GroupHeader.{GroupHeader}
 use Rattle.x12_write.specs.Delimiters.{is_this}
 use Rattle.x12_write.specs.Group.{group_text}
 use Rattle.x12_write.specs.Header.{header_text}
-use Rattle.x12_write.specs.Number.{padded_number}
+use Rattle.x12_write.specs.Number.{set_number}
 use Rattle.x12_write.specs.Segment.{segment_text, elements_text}
 use Rattle.x12_write.specs.Trailer.{trailer_text}
 use Rattle.mailbox.specs.Deliveries.{inner_in}
-use Rattle.judged_text.specs.Judged.{PlacedValue, delims_in}
+use Rattle.answered_sets.specs.Judged.{PlacedValue, delims_in}
 use Rattle.mailbox.specs.Numbered.{NumberedValue, groups_of, numbered_from, sender_in}
 
 -- a byte of a set, with the delimiters changed to the receiver's
@@ -41,7 +41,7 @@ mapped_elements from to elements = elements_text to.element (map (mapped from to
 abbrev pub set_header_text : Delims → Delims → SegValue → ℕ → List ℕ
 set_header_text from to header n =
     codes "ST" ++ mapped_elements from to (take 1 (drop 1 (elements_of header)))
-    ++ elements_text to.element (padded_number 4 n ∷ [])
+    ++ elements_text to.element (set_number n ∷ [])
     ++ mapped_elements from to (drop 2 (drop 1 (elements_of header)))
     ++ to.terminator ∷ []
 
@@ -51,7 +51,7 @@ inner_text from to seg = mapped from to seg.bytes ++ to.terminator ∷ []
 
 -- SE, written anew
 abbrev pub set_trailer_text : Delims → ℕ → ℕ → List ℕ
-set_trailer_text to segments n = segment_text to (codes "SE") (decimal segments ∷ padded_number 4 n ∷ [])
+set_trailer_text to segments n = segment_text to (codes "SE") (decimal segments ∷ set_number n ∷ [])
 
 -- a set as it is delivered, as set number n
 abbrev pub set_text : (to : Delims) → PlacedValue → ℕ → List ℕ

@@ -4,7 +4,7 @@ use Rattle.std.specs.Prelude.{ℕ, ◌+◌, Bool, false, List, [], ◌∷◌, un
 use Rattle.x12_segs.specs.Words.{element_of}
 use Rattle.count_numbers.specs.Runs.{same_key}
 use Rattle.count_numbers.specs.declared.run.RunKey.{RunKey}
-use Rattle.judged_text.specs.Judged.{PlacedValue}
+use Rattle.answered_sets.specs.Judged.{PlacedValue}
 
 -- a delivered set and how many sets were delivered to the partner before it
 pub record NumberedValue : Type 0 where

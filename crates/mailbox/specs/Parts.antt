@@ -1,7 +1,7 @@
 -- Private. How a list is shared by threads (own).
 use Rattle.std.specs.Prelude.{◌≡◌, ℕ, ◌+◌, ◌≤◌, List, [], ◌∷◌, slice_range}
 use Rattle.partner_setup.specs.declared.partner.Partner.{Partner}
-use Rattle.judged_text.specs.Judged.{PlacedValue}
+use Rattle.answered_sets.specs.Judged.{PlacedValue}
 use Rattle.mailbox.specs.Rendered.{RenderedValue, rendered_from}
 use Rattle.mailbox.specs.declared.parts.Part.{Part}
 

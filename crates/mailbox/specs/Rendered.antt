@@ -12,7 +12,7 @@ use Rattle.x12_write.specs.declared.group.GroupHeader.{GroupHeader}
 use Rattle.x12_write.specs.Group.{group_text}
 use Rattle.x12_write.specs.Header.{header_text}
 use Rattle.x12_write.specs.Trailer.{trailer_text}
-use Rattle.judged_text.specs.Judged.{JudgedValue, PlacedValue}
+use Rattle.answered_sets.specs.Judged.{JudgedValue, PlacedValue}
 use Rattle.mailbox.specs.Deliveries.{delivered_to}
 use Rattle.mailbox.specs.Mailbox.{box_text, code_by, group_total, set_text}
 use Rattle.mailbox.specs.Numbered.{group_key_of}

@@ -2,7 +2,7 @@
 use Rattle.std.specs.Prelude.{ℕ, ◌≡◌, ◌<◌, ◌≤◌, List, ◌++◌, Some, length, slice_get}
 use Rattle.partner_setup.specs.declared.partner.Partner.{Partner}
 use Rattle.partner_setup.specs.Setup.{SetupValue}
-use Rattle.judged_text.specs.Judged.{PlacedValue}
+use Rattle.answered_sets.specs.Judged.{PlacedValue}
 use Rattle.mailbox.specs.Rendered.{RenderedValue, rendered_from}
 
 -- for the partners before a place these sets were written after the others; for those after it nothing yet

@@ -2,33 +2,33 @@ ghost use Rattle.std.specs.Prelude.{◌≡◌, ◌-◌, true, false, is_some, ta
 ghost use Rattle.std.specs.Bool.{OnTrue};
 ghost use Rattle.std.specs.List.{list_any, remove};
 ghost use Rattle.env_index.specs.declared.entry.SetEnvelope.{SetEnvelope};
-ghost use Rattle.judged_text.specs.Judged.{delims_in};
-ghost use Rattle.mailbox.specs.Deliveries.{inner_in, is_blocked, is_in_the_way, is_text_in_the_way, kept_parts};
+ghost use Rattle.answered_sets.specs.Judged.{delims_in};
+ghost use Rattle.mailbox.specs.Deliveries.{inner_in, is_blocked, collides, has_collision, kept_parts};
 ghost use Rattle.mailbox.specs.Blocking.{AllShared, is_foreign, is_foreign_if};
 
+use answered_sets::PlacedSet;
 use env_index::SetEnvelope;
-use judged_text::PlacedSet;
 use memchr::memchr;
 use x12_bytes::Delims;
 use x12_segs::{Parts, SegView, Segments};
 use x12_write::is_delimiter;
 
 /// Whether a byte isn't a delimiter where it comes from, and one where it goes to.
-fn is_in_the_way(from: &Delims, to: &Delims, byte: u8) -> bool
-    ensures { result ≡ is_in_the_way from.now to.now byte }
+fn collides(from: &Delims, to: &Delims, byte: u8) -> bool
+    ensures { result ≡ collides from.now to.now byte }
 {
     !is_delimiter(from, byte) && is_delimiter(to, byte)
 }
 
-fn is_text_in_the_way(from: &Delims, to: &Delims, text: &[u8]) -> bool
-    ensures { result ≡ is_text_in_the_way from.now to.now text.now }
+fn has_collision(from: &Delims, to: &Delims, text: &[u8]) -> bool
+    ensures { result ≡ has_collision from.now to.now text.now }
 {
-    text.iter().any(|byte| is_in_the_way(from, to, *byte))
+    text.iter().any(|byte| collides(from, to, *byte))
 }
 
 /// Whether a byte of what is kept of an ST is in the way. Most are seen to be clear by all their bytes.
 fn is_header_blocked(from: &Delims, to: &Delims, header: &SegView<'_>) -> bool
-    ensures { result ≡ list_any (is_text_in_the_way from.now to.now) (kept_parts header.now) }
+    ensures { result ≡ list_any (has_collision from.now to.now) (kept_parts header.now) }
 {
     if is_clear(from, to, header.bytes()) {
         return false;
@@ -37,14 +37,14 @@ fn is_header_blocked(from: &Delims, to: &Delims, header: &SegView<'_>) -> bool
 }
 
 fn are_header_parts_blocked(from: &Delims, to: &Delims, header: &SegView<'_>) -> bool
-    ensures { result ≡ list_any (is_text_in_the_way from.now to.now) (kept_parts header.now) }
+    ensures { result ≡ list_any (has_collision from.now to.now) (kept_parts header.now) }
 {
-    is_text_in_the_way(from, to, header.id()) || are_kept_blocked(from, to, header.elements())
+    has_collision(from, to, header.id()) || are_kept_blocked(from, to, header.elements())
 }
 
 /// Whether a byte of an ST's elements but the second is in the way.
 fn are_kept_blocked(from: &Delims, to: &Delims, elements: Parts<'_>) -> bool
-    ensures { result ≡ list_any (is_text_in_the_way from.now to.now) (remove elements.entry 1) }
+    ensures { result ≡ list_any (has_collision from.now to.now) (remove elements.entry 1) }
 {
     let mut left = elements;
     let first = is_next_blocked(from, to, &mut left);
@@ -54,31 +54,31 @@ fn are_kept_blocked(from: &Delims, to: &Delims, elements: Parts<'_>) -> bool
 }
 
 fn is_next_blocked(from: &Delims, to: &Delims, left: &mut Parts<'_>) -> bool
-    ensures first { result ≡ list_any (is_text_in_the_way from.now to.now) (take 1 left.old) }
+    ensures first { result ≡ list_any (has_collision from.now to.now) (take 1 left.old) }
     ensures rest { left.new ≡ drop 1 left.old }
 {
     match left.next() {
-        Some(part) => is_text_in_the_way(from, to, part),
+        Some(part) => has_collision(from, to, part),
         None => false,
     }
 }
 
 fn are_left_blocked(from: &Delims, to: &Delims, left: Parts<'_>) -> bool
-    ensures { result ≡ list_any (is_text_in_the_way from.now to.now) left.entry }
+    ensures { result ≡ list_any (has_collision from.now to.now) left.entry }
 {
     let mut left = left;
-    left.any(|part| is_text_in_the_way(from, to, part))
+    left.any(|part| has_collision(from, to, part))
 }
 
 /// Whether a byte of the first `most` segments of those that are left is in the way.
 fn are_segments_blocked(from: &Delims, to: &Delims, mut left: Segments<'_>, most: u64) -> bool
-    ensures { result ≡ list_any (λ seg. is_text_in_the_way from.now to.now seg.bytes) (take most left.entry) }
+    ensures { result ≡ list_any (λ seg. has_collision from.now to.now seg.bytes) (take most left.entry) }
 {
     let mut count = most;
     while count > 0 {
         match left.next() {
             Some(seg) => {
-                if is_text_in_the_way(from, to, seg.bytes()) {
+                if has_collision(from, to, seg.bytes()) {
                     return true;
                 }
             }
@@ -111,10 +111,10 @@ pub(crate) fn is_blocked(to: &Delims, placed: &PlacedSet<'_, '_, '_>) -> bool
     if are_shared(&from, to) {
         return false;
     }
-    is_exactly_blocked(&from, to, placed)
+    has_blocking_byte(&from, to, placed)
 }
 
-fn is_exactly_blocked(from: &Delims, to: &Delims, placed: &PlacedSet<'_, '_, '_>) -> bool
+fn has_blocking_byte(from: &Delims, to: &Delims, placed: &PlacedSet<'_, '_, '_>) -> bool
     requires { from.now ≡ delims_in placed.now }
     ensures { result ≡ is_blocked to.now placed.now }
 {
@@ -130,7 +130,7 @@ fn is_inner_blocked<'a>(
     set: &SetEnvelope<'a>,
 ) -> bool
     requires { set.now ≡ placed.now.set }
-    ensures { result ≡ list_any (λ seg. is_text_in_the_way from.now to.now seg.bytes) (inner_in placed.now) }
+    ensures { result ≡ list_any (λ seg. has_collision from.now to.now seg.bytes) (inner_in placed.now) }
 {
     if is_clear(from, to, placed.stretch(set)) {
         return false;
@@ -140,31 +140,31 @@ fn is_inner_blocked<'a>(
 
 /// Whether surely no byte of a text is in the way.
 fn is_clear(from: &Delims, to: &Delims, text: &[u8]) -> bool
-    ensures { OnTrue result (is_text_in_the_way from.now to.now text.now ≡ false) }
+    ensures { OnTrue result (has_collision from.now to.now text.now ≡ false) }
 {
-    if !is_passed_over(from, to.element, text) {
+    if !cannot_collide(from, to.element, text) {
         return false;
     }
-    if !is_passed_over(from, to.component, text) {
+    if !cannot_collide(from, to.component, text) {
         return false;
     }
-    if !is_passed_over(from, to.terminator, text) {
+    if !cannot_collide(from, to.terminator, text) {
         return false;
     }
-    is_repetition_passed_over(from, to.repetition, text)
+    repetition_cannot_collide(from, to.repetition, text)
 }
 
-fn is_repetition_passed_over(from: &Delims, repetition: Option<u8>, text: &[u8]) -> bool
+fn repetition_cannot_collide(from: &Delims, repetition: Option<u8>, text: &[u8]) -> bool
     ensures { OnTrue result (list_any (is_foreign_if from.now repetition) text.now ≡ false) }
 {
     match repetition {
-        Some(separator) => is_passed_over(from, separator, text),
+        Some(separator) => cannot_collide(from, separator, text),
         None => true,
     }
 }
 
 /// Whether a byte is a delimiter where a text comes from, or isn't in it.
-fn is_passed_over(from: &Delims, byte: u8, text: &[u8]) -> bool
+fn cannot_collide(from: &Delims, byte: u8, text: &[u8]) -> bool
     ensures { OnTrue result (list_any (is_foreign from.now byte) text.now ≡ false) }
 {
     is_delimiter(from, byte) || memchr(byte, text).is_none()

@@ -1,5 +1,5 @@
+use answered_sets::PlacedSet;
 use hub_kinds::NoMemory;
-use judged_text::PlacedSet;
 use std::alloc::Global;
 use std::marker::Model;
 
@@ -14,7 +14,7 @@ pub type Deliveries<'j, 'i, 'a> = Vec<Delivered<'j, 'i, 'a>>;
 
 impl<'j, 'i, 'a> Model for Delivered<'j, 'i, 'a> {
     ghost use Rattle.std.specs.Prelude.{List};
-    ghost use Rattle.judged_text.specs.Judged.{PlacedValue};
+    ghost use Rattle.answered_sets.specs.Judged.{PlacedValue};
 
     ghost Value = { List PlacedValue };
 

@@ -1,8 +1,8 @@
 ghost use Rattle.std.specs.Prelude.{◌≡◌};
 ghost use Rattle.mailbox.specs.Deliveries.{is_not_rejected, is_deliverable};
 
+use answered_sets::{PlacedSet, is_fa, is_refused};
 use hub_kinds::Verdict;
-use judged_text::{PlacedSet, is_fa, is_refused};
 
 /// A or E.
 pub(crate) fn is_not_rejected(verdict: Verdict) -> bool

@@ -2,12 +2,12 @@ ghost use Rattle.std.specs.Prelude.{◌≡◌, ◌≤◌, IfSome, length};
 ghost use Rattle.std.specs.List.{count_by};
 ghost use Rattle.memchr.specs.Find.{is_byte};
 ghost use Rattle.x12_bytes.specs.Bytes.{is_line_end};
-ghost use Rattle.judged_text.specs.Judged.{delims_in};
+ghost use Rattle.answered_sets.specs.Judged.{delims_in};
 ghost use Rattle.mailbox.specs.Deliveries.{inner_count, inner_in};
 ghost use Rattle.mailbox.specs.Gapless.{AreWhole, is_gapless};
 
+use answered_sets::PlacedSet;
 use env_index::SetEnvelope;
-use judged_text::PlacedSet;
 use memchr::memchr_iter;
 
 #[inline(always)]

@@ -6,9 +6,9 @@
 //! Proved:
 //! - `is_deliverable` and `outcome_at` are their definitions: which verdicts, groups and interchanges a set may be delivered from,
 //!   and whether a byte that is kept of it is in the way;
-//! - `deliver` gives each partner exactly the sets that are delivered to it by the definition, front to back, in one pass over the
-//!   sets: those of its routes that may be delivered and aren't held; by many threads (`Writers::deliver_all`) these are the same, whoever
-//!   looked at which interchanges;
+//! - `all_outcomes` gives the outcomes of all sets of interchanges, front to back, and `deliver` gives each partner, by these outcomes,
+//!   exactly the sets that are delivered to it by the definition, front to back; `joined_deliveries` gives those of interchanges
+//!   and of the interchanges after them, whoever looked at which;
 //! - `render_set` appends a set with ST02 and SE written anew and each delimiter changed to the receiver's; where memory is refused it
 //!   leaves what was there, and a part after it;
 //! - `render_deliveries` writes for each partner the sets that are delivered to it after those that were written before, numbered on
@@ -37,12 +37,13 @@ mod eligible;
 mod gapless;
 mod group_text;
 mod grouping;
-mod halving;
 mod inner;
+mod joined;
 mod kept;
 mod laws;
 mod mapped;
 mod outcome;
+mod outcomes;
 mod parts;
 mod receiving;
 mod render;
@@ -57,8 +58,10 @@ pub use assembling::{Mailbox, assemble, close};
 pub use deliveries::{Delivered, Deliveries};
 pub use delivering::deliver;
 pub use eligible::is_deliverable;
+pub use joined::joined_deliveries;
 pub use laws::{boxes_by_rendered, groups_are_runs, sets_are_accounted};
 pub use outcome::Outcome;
+pub use outcomes::{SetOutcomes, all_outcomes};
 pub use receiving::outcome_at;
 pub use render::render_set;
 pub use render_batch::{nothing_rendered, render_deliveries};

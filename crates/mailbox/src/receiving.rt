@@ -3,7 +3,7 @@ ghost use Rattle.mailbox.specs.Deliveries.{outcome_at};
 
 use crate::blocking::is_blocked;
 use crate::outcome::Outcome;
-use judged_text::PlacedSet;
+use answered_sets::PlacedSet;
 use partner_setup::Setup;
 
 /// The outcome of a set that may be delivered, for the receiver at this place of the setup.

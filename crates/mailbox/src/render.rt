@@ -2,17 +2,17 @@ ghost use Rattle.std.specs.Prelude.{◌≡◌, ◌++◌, ◌+◌, OnOk, IfOk, On
 ghost use Rattle.std.specs.List.{flat_map};
 ghost use Rattle.x12_write.specs.Extends.{Extends};
 ghost use Rattle.mailbox.specs.Deliveries.{inner_in};
-ghost use Rattle.judged_text.specs.Judged.{delims_in};
+ghost use Rattle.answered_sets.specs.Judged.{delims_in};
 ghost use Rattle.mailbox.specs.Mailbox.{set_header_text, inner_text, set_trailer_text, set_text};
 
 use crate::blocking::inner_count;
 use crate::gapless::inner_if_gapless;
 use crate::inner::append_inners;
 use crate::mapped::{append_mapped_elements, append_next_element};
+use answered_sets::PlacedSet;
 use env_index::SetEnvelope;
 use hub_kinds::NoMemory;
 use itoa::Buffer;
-use judged_text::PlacedSet;
 use x12_bytes::Delims;
 use x12_segs::SegView;
 use x12_write::{PaddedNumber, append_segment};
@@ -33,7 +33,7 @@ fn append_set_header(
     append_next_element(out, from, to, &mut left)?;
     let _old_number = left.next();
     out.push(to.element)?;
-    out.extend_from_slice(PaddedNumber::new(number, 4).bytes())?;
+    out.extend_from_slice(PaddedNumber::of_set(number).bytes())?;
     append_mapped_elements(out, from, to, left)?;
     out.push(to.terminator)?;
     Ok(())
@@ -50,7 +50,7 @@ fn append_set_trailer(
     ensures kept { Extends out.old.items out.new.items }
 {
     let mut count = Buffer::new();
-    let number = PaddedNumber::new(number, 4);
+    let number = PaddedNumber::of_set(number);
     append_segment(
         out,
         to,

@@ -1,5 +1,7 @@
 ghost use Rattle.std.specs.Prelude.{◌≡◌, ◌<◌, ◌++◌, [], List, Some, IfOk, OnOk, length, replicate, slice_get, slice_set};
 ghost use Rattle.partner_setup.specs.declared.partner.Partner.{Partner};
+ghost use Rattle.answered_sets.specs.Judged.{JudgedValue};
+ghost use Rattle.mailbox.specs.Deliveries.{AreDelivered};
 ghost use Rattle.mailbox.specs.Rendered.{HaveRendered, RenderedValue, rendered_from};
 ghost use Rattle.mailbox.specs.Rendering.{AreWritten};
 
@@ -7,7 +9,6 @@ use crate::deliveries::Delivered;
 use crate::rendered_sets::RenderedSets;
 use crate::writers::Writers;
 use hub_kinds::NoMemory;
-use judged_text::JudgedInterchange;
 use partner_setup::Setup;
 use std::alloc::Global;
 
@@ -61,19 +62,20 @@ fn render_each<W: Writers>(
     Ok(())
 }
 
-/// Has the sets that are delivered of these interchanges written after those that were written before for each partner, and numbers
-/// them on (X12.6, transaction set). The only error is out of memory.
+/// Has the sets that are delivered to each partner, `lists`, written after those that were written before for it, and numbers them on
+/// (X12.6, transaction set). The only error is out of memory.
 pub fn render_deliveries<W: Writers>(
     alloc: Global,
     writers: &W,
     setup: &Setup,
-    interchanges: &[JudgedInterchange<'_, '_>],
+    lists: &[Delivered<'_, '_, '_>],
     boxes: &mut [RenderedSets],
 ) -> Result<(), NoMemory>
     requires ready { W.is_ready writers.now }
+    requires lists { length lists.now ≡ length setup.now.partners }
     requires boxes { length boxes.old ≡ length setup.now.partners }
-    ensures { OnOk result (HaveRendered setup.now interchanges.now boxes.old boxes.new) }
+    ensures { OnOk result ((xs : List JudgedValue) → AreDelivered setup.now xs lists.now
+        → HaveRendered setup.now xs boxes.old boxes.new) }
 {
-    let lists = writers.deliver_all(alloc, setup, interchanges)?;
-    render_each(alloc, writers, setup, lists.as_slice(), boxes)
+    render_each(alloc, writers, setup, lists, boxes)
 }

@@ -6,9 +6,9 @@ ghost use Rattle.mailbox.specs.Rendered.{rendered_from};
 
 use crate::render::append_set_of;
 use crate::rendered_sets::Row;
+use answered_sets::PlacedSet;
 use count_numbers::num;
 use hub_kinds::NoMemory;
-use judged_text::PlacedSet;
 use partner_setup::Partner;
 use std::alloc::Global;
 

@@ -1,23 +1,19 @@
 ghost use Rattle.std.specs.Prelude.{◌≡◌, ◌+◌, ◌<◌, ◌≤◌, ◌^◌, List, Some, IfOk, length, map, slice_get};
 ghost use Rattle.std.specs.List.{flat_map};
 ghost use Rattle.std.specs.Thread.{IsSync};
-ghost use Rattle.judged_text.specs.Judged.{PlacedValue};
-ghost use Rattle.mailbox.specs.Deliveries.{AreDelivered};
+ghost use Rattle.answered_sets.specs.Judged.{PlacedValue};
 ghost use Rattle.mailbox.specs.Numbers.{HasCounters};
 ghost use Rattle.mailbox.specs.Parts.{AreParts, rendered_part};
 ghost use Rattle.mailbox.specs.Rendered.{rendered_from};
 ghost use Rattle.mailbox.specs.declared.parts.Part.{Part};
 
-use crate::deliveries::Deliveries;
-use crate::delivering::deliver;
-use crate::halving::deliver_by;
 use crate::parts::{Part, parts_of};
 use crate::rendered_sets::Row;
 use crate::row::write_row;
+use answered_sets::PlacedSet;
 use hub_kinds::NoMemory;
 use job_pool::{ManyThreads, OneThread};
-use judged_text::{JudgedInterchange, PlacedSet};
-use partner_setup::{Partner, Setup};
+use partner_setup::Partner;
 use rayon::prelude::*;
 use std::alloc::Global;
 use std::thread::Threads;
@@ -25,7 +21,7 @@ use std::thread::Threads;
 /// How many sets a thread is worth being started for.
 const FEWEST: usize = 64;
 
-/// Who looks for the sets that are delivered to a partner, and writes them: one thread, or many.
+/// Who writes the sets that are delivered to a partner: one thread, or many.
 pub trait Writers {
     // it can be shared by the threads that write
     ghost is_ready: { Self → Type 0 };
@@ -43,17 +39,6 @@ pub trait Writers {
         requires counters { HasCounters partner.now }
         requires few { k + length sets.now < 2 ^ 64 }
         ensures { IfOk result (λ parts. flat_map (λ sets. sets) parts.items ≡ rendered_from partner.now k sets.now) };
-
-    /// For each partner of a setup, by its place, the sets of these interchanges that are delivered to it, front to back (X12.6,
-    /// transaction set). The only error is out of memory.
-    fn deliver_all<'j, 'i: 'j, 'a: 'i>(
-        &self,
-        alloc: Global,
-        setup: &Setup,
-        interchanges: &'j [JudgedInterchange<'i, 'a>],
-    ) -> Result<Deliveries<'j, 'i, 'a>, NoMemory>
-        requires ready { is_ready self.now }
-        ensures { IfOk result (λ lists. AreDelivered setup.now interchanges.entry.now lists.items) };
 }
 
 impl Writers for OneThread {
@@ -70,15 +55,6 @@ impl Writers for OneThread {
         parts.push(write_row(alloc, partner, k, sets)?)?;
         Ok(parts)
     }
-
-    fn deliver_all<'j, 'i: 'j, 'a: 'i>(
-        &self,
-        alloc: Global,
-        setup: &Setup,
-        interchanges: &'j [JudgedInterchange<'i, 'a>],
-    ) -> Result<Deliveries<'j, 'i, 'a>, NoMemory> {
-        deliver(alloc, setup, interchanges)
-    }
 }
 
 impl<'r, R: Threads + Sync> Writers for ManyThreads<'r, R> {
@@ -94,15 +70,6 @@ impl<'r, R: Threads + Sync> Writers for ManyThreads<'r, R> {
         let share = self.share_of(sets.len(), FEWEST);
         let parts = parts_of(alloc, sets.len(), share)?;
         write_by(self.rt, alloc, parts.as_slice(), partner, k, sets)
-    }
-
-    fn deliver_all<'j, 'i: 'j, 'a: 'i>(
-        &self,
-        alloc: Global,
-        setup: &Setup,
-        interchanges: &'j [JudgedInterchange<'i, 'a>],
-    ) -> Result<Deliveries<'j, 'i, 'a>, NoMemory> {
-        deliver_by(self.rt, alloc, setup, interchanges, self.workers)
     }
 }
 

@@ -1,7 +1,6 @@
 -- Why a names file is refused (own words): the table, the key and one cause.
 use Rattle.std.specs.Prelude.{◌≡◌, ℕ, List, [], ◌∷◌, ◌++◌, Option, None, Some, codes}
-use Rattle.key_words.specs.NoTables.{IsNoTableSaid}
-use Rattle.refusal_words.specs.Places.{key_text}
+use Rattle.key_errors.specs.NoTables.{IsNoTableSaid}
 use Rattle.guide_names.specs.Names.{Words}
 use Rattle.guide_names.specs.Refusals.{AreNamesOf, IsNamesFaultOf}
 use Rattle.guide_names.specs.declared.fault.Cause.{Cause}
@@ -19,6 +18,10 @@ abbrev pub cause_text : Cause → List ℕ
 cause_text cause.Unknown = codes " isn't a key of its table"
 cause_text cause.NotText = codes " must be a text"
 cause_text cause.NotTable = codes " must be a table"
+
+-- a key, as it is written
+abbrev pub key_text : List ℕ → List ℕ
+key_text key = codes "`" ++ (key ++ codes "`")
 
 -- the keys of tables after one another
 abbrev pub further_tables : List (List ℕ) → List ℕ

@@ -1,11 +1,10 @@
 ghost use Rattle.std.specs.Prelude.{◌≡◌, ◌++◌, IfOk, OnOk};
-ghost use Rattle.refusal_words.specs.Places.{key_text};
 ghost use Rattle.names_file.specs.Refused as refused;
 
 use guide_names::{Cause, Names, NamesFault, Refused, read_names};
 use hub_kinds::{Items, NoMemory, Text};
-use key_words::no_table_text;
-use refusal_words::append;
+use key_errors::no_table_text;
+use setup_errors::append;
 use std::alloc::Global;
 
 /// What a names file is judged as.
@@ -51,7 +50,7 @@ fn append_tables(out: &mut Vec<u8>, keys: &[Text]) -> Result<(), NoMemory>
 }
 
 fn append_quoted_key(out: &mut Vec<u8>, key: &[u8]) -> Result<(), NoMemory>
-    ensures { OnOk result (out.new.items ≡ out.old.items ++ key_text key.now) }
+    ensures { OnOk result (out.new.items ≡ out.old.items ++ refused.key_text key.now) }
 {
     append(out, b"`")?;
     append(out, key)?;

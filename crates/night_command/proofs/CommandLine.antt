@@ -3,8 +3,8 @@ use Rattle.std.proofs.Common.{◌≡◌, ◌∙◌, List, true, codes, refl, sym
 use Rattle.clap.specs.Words.{HasMatchesOf, Text, first_value, found_of, is_simple, is_simple_and_free}
 use Rattle.clap.specs.declared.parser.matches.ArgMatches.{ArgMatches}
 use Rattle.clap.proofs.OnLiterals.{clap_on_literals}
-use Rattle.night_ends.specs.Words.{values_found}
-use Rattle.night_ends.proofs.ForAbove.{all_found, found}
+use Rattle.system_io.specs.Words.{values_found}
+use Rattle.system_io.proofs.ForAbove.{all_found, found}
 use Rattle.program_frame.specs.Arguments.{value_in, values_in}
 use Rattle.night_command.specs.CommandLine.{AreGiven, AreOptions, IsAsked, IsGiven, hub_app, piece_given, workers_given}
 use Rattle.night_command.specs.declared.command.Asked.{Asked}

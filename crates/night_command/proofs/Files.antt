@@ -6,7 +6,7 @@ use Rattle.std.proofs.Common.{get_or, map, refl, sym, ap, append-nil, append_ass
 use Rattle.std.proofs.lemmas.List.{drop_more, map-append}
 use Rattle.partner_setup.specs.declared.partner.Partner.{Partner}
 use Rattle.night_command.specs.Outbox.{AddsFiles, AddsSome, File, KeepsFiles, file_of}
-use Rattle.night_writing.specs.declared.night.Night.{Night}
+use Rattle.night_batches.specs.declared.night.Night.{Night}
 use Rattle.partner_setup.specs.Setup.{SetupValue}
 use Rattle.night_command.specs.NightFiles.{files_of, night_files, partner_files}
 use Rattle.night_command.specs.Outcome.{IsNightOfSource, LeavesFront, LeavesOutbox, PutsFront}

@@ -12,7 +12,7 @@ use Rattle.partner_setup.specs.CountersFile.{counters_of_table}
 use Rattle.partner_setup.specs.CountersText.{counters_text}
 use Rattle.partner_setup.specs.Setup.{SetupValue}
 use Rattle.partner_setup.specs.SetupFile.{setup_of_table}
-use Rattle.night_writing.specs.declared.night.Night.{Night}
+use Rattle.night_batches.specs.declared.night.Night.{Night}
 use Rattle.night_definition.specs.ReadBack as defined
 use Rattle.night_definition.specs.Program.{setup_of_files}
 use Rattle.night_definition.specs.SetupFile as defined_files

@@ -7,7 +7,7 @@ use Rattle.clap.specs.Words.{App, Rule, Text, first_value, takes, with_rule}
 use Rattle.clap.specs.declared.builder.value_parser.ValueParser.TheVariants.{Unsigned}
 use Rattle.clap.specs.declared.parser.matches.Found.{Found}
 use Rattle.moment.specs.Moment.{IsMoment}
-use Rattle.night_ends.specs.Words.{values_found}
+use Rattle.system_io.specs.Words.{values_found}
 use Rattle.program_frame.specs.Arguments.{option_free, option_repeated, program, value_in, values_in}
 use Rattle.program_frame.specs.Matching.{AsksForText}
 use Rattle.night_command.specs.declared.command.Asked.{Asked}

@@ -1,6 +1,6 @@
 -- The files of a night (own): for each partner its acknowledgments and its mailbox, then the report and the next counters.
 use Rattle.std.specs.Prelude.{◌≡◌, ℕ, List, [], ◌∷◌, ◌++◌, codes, length}
-use Rattle.night_writing.specs.declared.night.Night.{Night}
+use Rattle.night_batches.specs.declared.night.Night.{Night}
 use Rattle.partner_setup.specs.CountersText.{counters_text}
 use Rattle.partner_setup.specs.Setup.{SetupValue}
 use Rattle.partner_setup.specs.declared.partner.Partner.{Partner}

@@ -6,7 +6,7 @@ use Rattle.std.specs.declared.io.ErrorKind.TheVariants.{OutOfMemory}
 use Rattle.night_command.specs.declared.outbox.NamedText.{NamedText}
 use Rattle.night_command.specs.declared.put_fault.PutFault.{PutFault}
 use Rattle.night_command.specs.declared.put_fault.PutFault.TheVariants.{NoMemory, Output}
-pub use Rattle.night_ends.specs.Outbox.{AddsFiles, File, KeepsFiles, PutsFile}
+pub use Rattle.system_io.specs.Outbox.{AddsFiles, File, KeepsFiles, PutsFile}
 
 abbrev pub file_of : NamedText → File
 file_of text = (text.name, flat_map (λ part. part) text.parts.items)

@@ -5,7 +5,7 @@ use Rattle.hub_kinds.specs.declared.limits.TheConstants.{LONGEST_TEXT}
 use Rattle.night_definition.specs.ReadBack as defined
 use Rattle.night_equal_text.specs.LookedUp.{seen_setup}
 use Rattle.night_equal_read.specs.Read.{seen_night}
-use Rattle.night_writing.specs.declared.night.Night.{Night}
+use Rattle.night_batches.specs.declared.night.Night.{Night}
 use Rattle.night_report.specs.Clean.{is_clean, last_of, lines_of}
 use Rattle.partner_setup.specs.Setup.{SetupValue}
 use Rattle.clap.specs.Words.{Text}

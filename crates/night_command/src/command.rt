@@ -3,17 +3,17 @@ ghost use Rattle.clap.specs.Words.{app_of, first_value, found_of};
 ghost use Rattle.program_frame.specs.Mistake.{IsUsage};
 ghost use Rattle.night_command.specs.CommandLine.{AreGiven, IsAsked, IsCommandLine, IsGiven, hub_app, night_app};
 ghost use Rattle.night_command.specs.Failure.{IsOfWords};
-ghost use Rattle.night_ends.specs.Words.{values_found};
+ghost use Rattle.system_io.specs.Words.{values_found};
 
 use crate::failure::Failure;
 use crate::options::{moment_given, option_wanted, with_night};
 use crate::sharing::{Sharing, piece_option, sharing_given, workers_option};
 use clap::{ArgMatches, Command};
 use moment::At;
-use night_ends::{copied, with_argument};
 use program_frame::{Matched, Mistake, match_words, program};
 use std::alloc::{AllocError, Global};
 use std::convert::AsStr;
+use system_io::{copied, with_argument};
 
 /// What comes after the options in the text of `--help`.
 const FILES_AND_STATUSES: &str =

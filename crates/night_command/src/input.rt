@@ -4,11 +4,11 @@ ghost use Rattle.night_command.specs.Input.{IsInputOf, IsUnreadOf};
 
 use crate::failure::Failure;
 use hub_kinds::within_limit;
-use night_ends::Reader;
 use std::fs::{Metadata, OpenFile};
 use std::io;
 use std::io::Read;
 use stream_read::Source;
+use system_io::Reader;
 
 /// What was opened, as a source of bytes. A file of which the system says that it is longer than the limit isn't read.
 pub fn source_of<'a, F: Read + OpenFile + Drop>(

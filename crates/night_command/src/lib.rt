@@ -72,10 +72,6 @@ pub use command::{Asked, Options, read_words};
 pub use failure::Failure;
 pub use input::source_of;
 pub use night::{give_night, give_opened, night_in, night_main};
-pub use night_ends::{
-    Created, Directory, Opened, Outbox, Reader, Written, create_at, open_at, read_whole,
-    write_and_sync,
-};
 pub use night_files::put_night;
 pub use options::{moment_given, option_wanted, with_night};
 pub use outcome::{Outcome, finish};
@@ -83,4 +79,8 @@ pub use put_fault::PutFault;
 pub use setup::{setup_at, setup_of};
 pub use setup_files::{FileAt, SetupFiles, read_at};
 pub use sharing::{Sharing, piece_option, sharing_given, workers_option};
+pub use system_io::{
+    Created, Directory, Opened, Outbox, Reader, Written, create_at, open_at, read_whole,
+    write_and_sync,
+};
 pub use words::program_words;

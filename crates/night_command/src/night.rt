@@ -1,7 +1,7 @@
 ghost use Rattle.std.specs.Prelude.{◌≡◌, ◌≢◌, ◌<◌, ◌≤◌, ◌⊎◌, ℕ, List, Some, IfOk, IfErr, IfSome, IsErrOf, IsOkAnd, length, map};
 ghost use Rattle.std.specs.Io.KnownBytes.{Appends};
 ghost use Rattle.stream_read.specs.Source.{GivenUp, HasFailed, TriedAgain};
-ghost use Rattle.night_ends.specs.Outbox.{path_in};
+ghost use Rattle.system_io.specs.Outbox.{path_in};
 ghost use Rattle.program_frame.specs.Matching.{AsksForText};
 ghost use Rattle.night_command.specs.CommandLine.{CanShare, IsCommandLine, NamesNight, guide_paths, hub_app};
 ghost use Rattle.night_command.specs.Failure.{IsOfNight};
@@ -22,7 +22,6 @@ use crate::sharing::Sharing;
 use hub_kinds::LONGEST_TEXT;
 use hub_run::{Night, OpenGate, Source, run_stream};
 use moment::At;
-use night_ends::{Directory, Opened, Outbox, open_at};
 use night_equal_read::file_references_are_plain;
 use partner_setup::Setup;
 use std::alloc::Global;
@@ -33,6 +32,7 @@ use std::rt::Files;
 use std::sync::Wait;
 use std::thread::Threads;
 use std::time::Clock;
+use system_io::{Directory, Opened, Outbox, open_at};
 
 /// How many bytes of the input are read at a time.
 const WINDOW: usize = 16_777_216;

@@ -9,9 +9,9 @@ use crate::put_fault::PutFault;
 use hub_kinds::{Items, Lent, NoMemory, Text};
 use hub_run::Night;
 use mailbox::Woven;
-use night_ends::Outbox;
 use partner_setup::{Partner, Setup};
 use std::alloc::Global;
+use system_io::Outbox;
 
 /// Puts the files of a night into an outbox: each partner's acknowledgments and mailbox in the order of the setup, then
 /// the report and the next counters; none is left out where it is empty. It stops at the first fault; the files before it are there.

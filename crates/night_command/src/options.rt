@@ -5,9 +5,9 @@ ghost use Rattle.night_command.specs.CommandLine.{option_wanted, options_wanted,
 
 use clap::{Arg, ArgMatches, Command};
 use moment::At;
-use night_ends::with_argument;
 use program_frame::{option_free, option_repeated};
 use std::alloc::{AllocError, Global};
+use system_io::with_argument;
 
 /// The command with the options that name the setup, the moment and the input of a night.
 pub fn with_night<'a>(alloc: Global, command: Command<'a>) -> Result<Command<'a>, AllocError>

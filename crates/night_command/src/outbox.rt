@@ -3,7 +3,7 @@ ghost use Rattle.night_command.specs.Outbox.{AddsFiles, AddsSome, IsPutFault, fi
 
 use crate::put_fault::PutFault;
 use hub_kinds::{Lent, Text};
-use night_ends::Outbox;
+use system_io::Outbox;
 
 /// A file that is to be put somewhere.
 #[derive(Drop)]

@@ -4,12 +4,12 @@ ghost use Rattle.night_command.specs.Failure.{IsMissing};
 ghost use Rattle.night_command.specs.SetupFiles.{IsUnread, path_of, paths_of};
 
 use hub_kinds::{Items, NoMemory, Text};
-use night_ends::{Opened, open_at, read_whole};
 use std::alloc::Global;
 use std::io;
 use std::io::Read;
 use std::marker::Model;
 use std::rt::Files;
+use system_io::{Opened, open_at, read_whole};
 
 /// A file that was asked for by its path, and its bytes, where it can be read. Only `read_at` makes one.
 #[derive(Debug, Drop)]

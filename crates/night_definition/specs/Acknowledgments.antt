@@ -20,7 +20,7 @@ use Rattle.night_definition.specs.Codes.{ik304_of, ik403_of, set_code_text, grou
 use Rattle.night_definition.specs.Codes.{fault_texts}
 use Rattle.night_definition.specs.Setup.{Setup, Judged}
 use Rattle.night_definition.specs.Answers.{Answer, AnsweredGroup, Answered, accepted_sets}
-use Rattle.night_definition.specs.Written.{padded_number, trimmed, segment_text, isa_text, iea_text, group_text}
+use Rattle.night_definition.specs.Written.{trimmed, segment_text, isa_text, iea_text, group_text, set_number}
 
 -- a segment as it is written: its id, then its elements
 abbrev pub written : Delims → Elements → List ℕ
@@ -80,7 +80,7 @@ abbrev pub report_segments : Delims → (n : ℕ) → AnsweredGroup → List Ele
 report_segments d n g =
     let gs = g.group.header.elements in
     let sets = length g.answers in
-    (codes "ST" ∷ codes "999" ∷ padded_number 4 n ∷ codes "005010X231" ∷ [])
+    (codes "ST" ∷ codes "999" ∷ set_number n ∷ codes "005010X231" ∷ [])
     ∷ (codes "AK1" ∷ element 1 gs ∷ element 6 gs ∷ element 8 gs ∷ [])
     ∷ (if list_any hides_sets g.codes then [] else flat_map (set_segments d) g.answers)
     ++ (codes "AK9" ∷ group_verdict_text g.verdict
@@ -91,7 +91,7 @@ report_segments d n g =
 abbrev pub report_text : Delims → (n : ℕ) → AnsweredGroup → List ℕ
 report_text d n g =
     let segments = report_segments d n g in
-    flat_map (written d) segments ++ written d (codes "SE" ∷ decimal (length segments + 1) ∷ padded_number 4 n ∷ [])
+    flat_map (written d) segments ++ written d (codes "SE" ∷ decimal (length segments + 1) ∷ set_number n ∷ [])
 
 -- A partner gets a TA1 if its header can be quoted: for a refused interchange whose fault has a note, and for any other if ISA14 asks
 -- for it and there is a group (own).

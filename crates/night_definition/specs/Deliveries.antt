@@ -10,7 +10,7 @@ use Rattle.night_definition.specs.Segments.{Elements, element}
 use Rattle.night_definition.specs.Elements.{is_this, numbered}
 use Rattle.night_definition.specs.Setup.{Setup, route_of}
 use Rattle.night_definition.specs.Answers.{Answer, AnsweredGroup, Answered, is_rejected}
-use Rattle.night_definition.specs.Written.{padded_number, isa_text, iea_text, group_text, segment_text}
+use Rattle.night_definition.specs.Written.{isa_text, iea_text, group_text, segment_text, set_number}
 use Rattle.night_definition.specs.Acknowledgments.{is_delimiter, num}
 
 -- an answered set with its delimiters, the number of its sender, and its GS
@@ -110,10 +110,10 @@ abbrev pub set_text : (to : Delims) → (control : ℕ) → Sent → List ℕ
 set_text to control s =
     let st = s.answer.set.header.elements in
     let inner = s.answer.set.inner in
-    elements_text s.delims to (take 2 st) ++ to.element ∷ padded_number 4 control
+    elements_text s.delims to (take 2 st) ++ to.element ∷ set_number control
     ++ flat_map (λ e. to.element ∷ mapped s.delims to e) (drop 3 st) ++ to.terminator ∷ []
     ++ flat_map (λ x. elements_text s.delims to x.elements ++ to.terminator ∷ []) inner
-    ++ segment_text to (codes "SE") (decimal (length inner + 2) ∷ padded_number 4 control ∷ [])
+    ++ segment_text to (codes "SE") (decimal (length inner + 2) ∷ set_number control ∷ [])
 
 abbrev pub code_of : Setup → (partner : ℕ) → List ℕ
 code_of setup partner = option_map_or (λ (p : Partner). p.code) (slice_get setup.partners partner) []

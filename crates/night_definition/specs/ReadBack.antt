@@ -19,7 +19,7 @@ use Rattle.night_definition.specs.Codes.{verdict_text}
 use Rattle.night_definition.specs.Sets.{Meets}
 use Rattle.night_definition.specs.Setup.{Setup, guide_of}
 use Rattle.night_definition.specs.Answers.{Answer, AnsweredGroup, Answered}
-use Rattle.night_definition.specs.Written.{padded_number}
+use Rattle.night_definition.specs.Written.{set_number}
 use Rattle.night_definition.specs.Acknowledgments.{num, reported, acknowledged_to, hides_sets, ta1_note, ta1_code}
 use Rattle.night_definition.specs.Deliveries.{Sent, delivered_to}
 use Rattle.night_definition.specs.Night.{Night, night_of, answered_text}
@@ -94,9 +94,9 @@ abbrev pub set_content : ℕ → Sent → List (List (List (List (List ℕ))))
 set_content control s =
     let st = s.answer.set.header.elements in
     let inner = s.answer.set.inner in
-    (map (element_content s.delims) (take 2 st) ++ text_content (padded_number 4 control) ∷ map (element_content s.delims) (drop 3 st))
+    (map (element_content s.delims) (take 2 st) ++ text_content (set_number control) ∷ map (element_content s.delims) (drop 3 st))
     ∷ map (λ x. map (element_content s.delims) x.elements) inner
-    ++ (text_content (codes "SE") ∷ text_content (decimal (length inner + 2)) ∷ text_content (padded_number 4 control) ∷ []) ∷ []
+    ++ (text_content (codes "SE") ∷ text_content (decimal (length inner + 2)) ∷ text_content (set_number control) ∷ []) ∷ []
 
 -- its mailbox has the delivered sets, each with the content that was sent
 abbrev pub IsBoxRead : Setup → (partner : ℕ) → Partner → List Answered → (box : List ℕ) → Type 0

@@ -12,6 +12,10 @@ use Rattle.night_definition.specs.Segments.{Elements}
 abbrev pub padded_number : (least n : ℕ) → List ℕ
 padded_number least n = replicate (least - length (decimal n)) 48 ++ decimal n
 
+-- ST02 and SE02 of what is written
+abbrev pub set_number : ℕ → List ℕ
+set_number n = padded_number 4 n
+
 abbrev pub padded_text : (least : ℕ) → List ℕ → List ℕ
 padded_text least text = text ++ replicate (least - length text) 32
 

@@ -5,6 +5,7 @@ use Rattle.std.proofs.lemmas.List.{map-append, take_more}
 use Rattle.std.proofs.lemmas.List.Folds.{list_all-append}
 use Rattle.std.specs.Prelude.{is_some}
 use Rattle.std.specs.List.{list_all}
+use Rattle.csv_fields.specs.declared.columns.TheConstants as column
 use Rattle.csv.specs.Reading.{AreRecords, default_config, strip_bom}
 use Rattle.csv.specs.Records.{fields_of}
 use Rattle.csv.specs.declared.parser.State.TheVariants as st
@@ -55,8 +56,9 @@ rows_good p rows i row low is so_far good =
 row_same : (input : List ℕ) (f g : List ℕ → Option AddressNumbers) → ((q : List ℕ) → f q ≡ g q) → (row : List (List ℕ))
     → is_row input f row ≡ is_row input g row
 row_same input f g same row =
-    ap (λ (o : Option AddressNumbers). (length row == 25) && (not (is_delivered row) || (is_some o && (is_offset input (cell row 1)
-    && (not (has_byte 0 (cell row 7)) && not (has_byte 0 (cell row 13))))))) (same (cell row 21))
+    ap (λ (o : Option AddressNumbers). (length row == column.COLUMNS) && (not (is_delivered row) || (is_some o
+    && (is_offset input (cell row column.OFFSET)
+    && (not (has_byte 0 (cell row column.GS06)) && not (has_byte 0 (cell row column.ST02))))))) (same (cell row column.RECEIVER))
 
 all_same : (p q : List (List ℕ) → Bool) → ((row : List (List ℕ)) → p row ≡ q row) → (table : List (List (List ℕ)))
     → list_all p table ≡ list_all q table

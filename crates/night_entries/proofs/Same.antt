@@ -6,6 +6,7 @@ use Rattle.std.specs.Prelude.{is_some}
 use Rattle.std.specs.List.{cons_option, filter_map}
 use Rattle.std.specs.Option.{option_to_list}
 use Rattle.std.proofs.lemmas.List.{map-append, take_more}
+use Rattle.csv_fields.specs.declared.columns.TheConstants as column
 use Rattle.csv.specs.Records.{fields_of}
 use Rattle.csv.specs.declared.record.ByteRecord.{ByteRecord}
 use Rattle.night_definition.specs.Header.{header_at}
@@ -44,7 +45,8 @@ row_same : (input : List ℕ) (f g : List ℕ → Option AddressNumbers) → ((q
     → row_key input f row ≡ row_key input g row
 row_same input f g same row =
     ap (λ (r : Option AddressNumbers). cond (is_delivered row)
-    (Some (set_key (header_at input (value_of (cell row 1))) (cell row 7) (cell row 13) r)) None) (same (cell row 21))
+    (Some (set_key (header_at input (value_of (cell row column.OFFSET))) (cell row column.GS06) (cell row column.ST02) r)) None)
+    (same (cell row column.RECEIVER))
 
 pub keys_same : (input : List ℕ) (f g : List ℕ → Option AddressNumbers) (table : List (List (List ℕ))) → ((q : List ℕ) → f q ≡ g q)
     → filter_map (row_key input f) table ≡ filter_map (row_key input g) table

@@ -3,6 +3,7 @@ use Rattle.std.specs.Prelude.{ℕ, Bool, List, [], ◌∷◌, ◌++◌, Option, 
 use Rattle.std.specs.List.{filter_map}
 use Rattle.std.specs.Option.{unwrap_or}
 use Rattle.std.specs.Str.{bytes_eq}
+use Rattle.csv_fields.specs.declared.columns.TheConstants as column
 use Rattle.csv.specs.Records.{field_at}
 use Rattle.night_definition.specs.Header.{field, header_at}
 use Rattle.hub_kinds.specs.Numbers.{value_of}
@@ -15,7 +16,7 @@ cell row n = unwrap_or (field_at row n) []
 
 -- the fields of the table of a night (docs/OPERATIONS.md): where the interchange begins, GS06, ST02, the outcome, the receiver
 abbrev pub is_delivered : List (List ℕ) → Bool
-is_delivered row = bytes_eq (cell row 18) (codes "delivered")
+is_delivered row = bytes_eq (cell row column.OUTCOME) (codes "delivered")
 
 abbrev pub interchange_key : (header : List ℕ) → List ℕ
 interchange_key header =
@@ -32,7 +33,8 @@ set_key header group set receiver = interchange_key header ++ (group ++ (0 ∷ [
 abbrev pub row_key : (input : List ℕ) → (receiver : List ℕ → Option AddressNumbers) → List (List ℕ) → Option (List ℕ)
 row_key input receiver row =
     if is_delivered row then
-    Some (set_key (header_at input (value_of (cell row 1))) (cell row 7) (cell row 13) (receiver (cell row 21)))
+    Some (set_key (header_at input (value_of (cell row column.OFFSET))) (cell row column.GS06) (cell row column.ST02)
+    (receiver (cell row column.RECEIVER)))
     else None
 
 abbrev pub receiver_named : List AddressNumbers → (name : List ℕ) → Option AddressNumbers

@@ -13,14 +13,12 @@ ghost use Rattle.night_entries.specs.Good.{has_byte, has_key, is_offset, is_row}
 use crate::fault::{EntryFault, Paper};
 use crate::named::{by_name, find};
 use csv::ByteRecord;
+use csv_fields::columns::{COLUMNS, GS06, OFFSET, OUTCOME, RECEIVER, ST02};
 use hub_kinds::{Items, NoMemory, Text, read_number};
 use hub_ledger::AddressNumbers;
 use std::alloc::Global;
 use std::collections::BTreeMap;
 use x12_bytes::{Header, read_header};
-
-/// How many fields a row has.
-const FIELDS: usize = 25;
 
 const TRACK: EntryFault = EntryFault::Unreadable(Paper::Track);
 
@@ -109,11 +107,11 @@ fn delivered_key<'a>(
     ensures good { IfOk result (λ _. has_key input.now (found_in receivers.now) (fields_of row.now) ≡ true) }
     ensures refused { IfErr result (IsTrackFault (has_key input.now (found_in receivers.now) (fields_of row.now))) }
 {
-    let Some(receiver) = find(receivers, cell(row, 21)) else {
+    let Some(receiver) = find(receivers, cell(row, RECEIVER)) else {
         return Err(TRACK);
     };
-    let header = header_of(input, cell(row, 1))?;
-    set_key(alloc, &header, cell(row, 7), cell(row, 13), receiver)
+    let header = header_of(input, cell(row, OFFSET))?;
+    set_key(alloc, &header, cell(row, GS06), cell(row, ST02), receiver)
 }
 
 /// The key of the set of a row, if the row says delivered.
@@ -127,10 +125,10 @@ fn row_key<'a>(
     ensures good { IfOk result (λ _. is_row input.now (found_in receivers.now) (fields_of row.now) ≡ true) }
     ensures refused { IfErr result (IsTrackFault (is_row input.now (found_in receivers.now) (fields_of row.now))) }
 {
-    if row.len() != FIELDS {
+    if row.len() != COLUMNS {
         return Err(TRACK);
     }
-    if cell(row, 18) == b"delivered".as_slice() {
+    if cell(row, OUTCOME) == b"delivered".as_slice() {
         Ok(Some(delivered_key(alloc, input, receivers, row)?))
     } else {
         Ok(None)

@@ -14,8 +14,8 @@ use Rattle.hub_kinds.specs.declared.set_codes.GroupVerdict.{GroupVerdict}
 use Rattle.env_index.specs.Words.{GroupEntry}
 use Rattle.env_index.specs.declared.entry.SetEnvelope.{SetEnvelope}
 use Rattle.set_check.specs.Checked.{guide_in, parts_in}
-use Rattle.checked_text.specs.Answers.{SentValue, IsSetAnswer, AreSetAnswers, IsGroupAnswered, AreGroupAnswers}
-use Rattle.checked_text.specs.declared.answered.AnsweredGroup as then
+use Rattle.set_answers.specs.Answers.{SentValue, IsSetAnswer, AreSetAnswers, IsGroupAnswered, AreGroupAnswers}
+use Rattle.set_answers.specs.declared.answered.AnsweredGroup as then
 use Rattle.night_law.proofs.ForAbove.{pairs_all}
 use Rattle.night_definition.specs.Answers.{Answer, AnsweredGroup}
 use Rattle.night_equal_text.specs.Answered.{IsAnswerOf, ChecksAreOne, AreAnswersOf, IsAnsweredAs, IsGroupOf, AreGroupsOf}

@@ -14,11 +14,11 @@ use Rattle.env_index.specs.Words as then
 use Rattle.env_index.specs.declared.entry.SetEnvelope.{SetEnvelope}
 use Rattle.ack_999.specs.Group.{totals_of, verdicts_of}
 use Rattle.ack_999.specs.Report as old_report
-use Rattle.judged_text.specs.Judged.{JudgedValue, is_fa, is_refused, sets_from, standing_at}
-use Rattle.judged_text.specs.declared.standing.GroupStanding.{GroupStanding}
-use Rattle.checked_text.specs.Standings.{standing_by}
-use Rattle.checked_text.specs.Standings as old_standings
-use Rattle.checked_text.specs.declared.answered.AnsweredGroup as layer
+use Rattle.answered_sets.specs.Judged.{JudgedValue, is_fa, is_refused, sets_from, standing_at}
+use Rattle.answered_sets.specs.declared.standing.GroupStanding.{GroupStanding}
+use Rattle.set_answers.specs.Standings.{standing_by}
+use Rattle.set_answers.specs.Standings as old_standings
+use Rattle.set_answers.specs.declared.answered.AnsweredGroup as layer
 use Rattle.night_report.specs.Report.{ShownGroup, shown_from}
 use Rattle.night_law.proofs.ForAbove.{IsThere}
 use Rattle.night_definition.specs.Segments.{Segment, element}

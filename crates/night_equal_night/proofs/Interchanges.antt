@@ -5,11 +5,11 @@ use Rattle.x12_bytes.specs.Header.{header_delims}
 use Rattle.hub_kinds.specs.declared.interchange.InterchangeFault.{InterchangeFault}
 use Rattle.env_index.specs.Words as then
 use Rattle.partner_setup.specs.Setup.{SetupValue, sender_of}
-use Rattle.judged_text.specs.Answered as old_note
-use Rattle.checked_text.specs.Acknowledgments.{Acknowledgment}
-use Rattle.checked_text.specs.Answers.{AreGroupAnswers}
-use Rattle.checked_text.specs.CheckedText.{CheckedInterchange, AreAnswersBy, sent_by, judged, acknowledgment_of}
-use Rattle.checked_text.specs.declared.answered.AnsweredGroup as layer
+use Rattle.answered_sets.specs.Answered as old_note
+use Rattle.set_answers.specs.Acknowledgments.{Acknowledgment}
+use Rattle.set_answers.specs.Answers.{AreGroupAnswers}
+use Rattle.set_answers.specs.CheckedText.{CheckedInterchange, AreAnswersBy, sent_by, judged, acknowledgment_of}
+use Rattle.set_answers.specs.declared.answered.AnsweredGroup as layer
 use Rattle.night_law.proofs.ForAbove.{IsSource}
 use Rattle.night_definition.specs.Interchanges.{Interchange}
 use Rattle.night_definition.specs.Setup.{Judged}

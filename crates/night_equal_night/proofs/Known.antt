@@ -3,8 +3,8 @@ use Rattle.std.proofs.Common.{ℕ, List, []}
 use Rattle.std.specs.List.{All, AllZip}
 use Rattle.partner_setup.specs.Setup.{SetupValue}
 use Rattle.mailbox.specs.Deliveries.{delivered_to}
-use Rattle.checked_text.specs.CheckedText.{CheckedInterchange, judged}
-use Rattle.night_writing.specs.Night.{IsKnown, judgements}
+use Rattle.set_answers.specs.CheckedText.{CheckedInterchange, judged}
+use Rattle.night_batches.specs.Night.{IsKnown, judgements}
 use Rattle.night_definition.specs.Interchanges.{text_of}
 use Rattle.night_definition.specs.Setup.{Setup, Judged, judged_after}
 use Rattle.night_definition.specs.Answers.{Answered, answered}

@@ -11,12 +11,12 @@ use Rattle.partner_setup.specs.Setup.{SetupValue}
 use Rattle.partner_setup.specs.Sound.{IsSoundPartner, IsSoundSetup}
 use Rattle.count_numbers.specs.Layout as old_layout
 use Rattle.count_numbers.specs.Num as old_num
-use Rattle.judged_text.specs.Judged.{JudgedValue}
+use Rattle.answered_sets.specs.Judged.{JudgedValue}
 use Rattle.mailbox.specs.Deliveries as old_deliveries
 use Rattle.mailbox.specs.Mailbox as old_box
-use Rattle.checked_text.specs.CheckedText.{CheckedInterchange, acknowledged_to, groups_to}
-use Rattle.night_writing.specs.Night.{IsNight, acks_of, box_of, next_of, judgements, sets_to}
-use Rattle.night_writing.specs.declared.night.Night as then
+use Rattle.set_answers.specs.CheckedText.{CheckedInterchange, acknowledged_to, groups_to}
+use Rattle.night_batches.specs.Night.{IsNight, acks_of, box_of, next_of, judgements, sets_to}
+use Rattle.night_batches.specs.declared.night.Night as then
 use Rattle.night_law.proofs.ForAbove.{at_index}
 use Rattle.night_definition.specs.Interchanges.{text_of}
 use Rattle.night_definition.specs.Elements.{numbered}

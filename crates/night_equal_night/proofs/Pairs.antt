@@ -2,7 +2,7 @@
 use Rattle.std.proofs.Common.{◌≡◌, ℕ, suc, ◌+◌, List, [], ◌∷◌, map, Some, length, refl, ap, ◌∙◌, arith}
 use Rattle.std.specs.Prelude.{slice_get}
 use Rattle.std.specs.List.{AllZip}
-use Rattle.checked_text.specs.Pairs.{AreAllPairs}
+use Rattle.set_answers.specs.Pairs.{AreAllPairs}
 use Rattle.night_definition.specs.Elements.{numbered}
 
 pub zip_of_pairs : {A B : Type 0} (R : A → B → Type 0) (xs : List A) (ys : List B) → AreAllPairs (λ n x y. R x y) xs ys → AllZip R xs ys

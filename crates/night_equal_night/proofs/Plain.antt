@@ -9,10 +9,10 @@ use Rattle.env_index.specs.Words.{with_faults}
 use Rattle.env_index.specs.declared.entry.SetEnvelope.{SetEnvelope}
 use Rattle.partner_setup.specs.Setup.{SetupValue}
 use Rattle.mailbox.specs.Deliveries.{delivered_to, is_delivered_to}
-use Rattle.judged_text.specs.Judged.{JudgedValue, all_sets, sets_from, sets_of, sets_of_groups_from, standing_at}
-use Rattle.judged_text.specs.declared.standing.GroupStanding.{GroupStanding}
-use Rattle.checked_text.specs.CheckedText.{CheckedInterchange, IsCheckedAs, AreCheckedAs, judged}
-use Rattle.checked_text.specs.Settled.{settled_entries, settled_faults}
+use Rattle.answered_sets.specs.Judged.{JudgedValue, all_sets, sets_from, sets_of, sets_of_groups_from, standing_at}
+use Rattle.answered_sets.specs.declared.standing.GroupStanding.{GroupStanding}
+use Rattle.set_answers.specs.CheckedText.{CheckedInterchange, IsCheckedAs, AreCheckedAs, judged}
+use Rattle.set_answers.specs.Settled.{settled_entries, settled_faults}
 use Rattle.night_law.proofs.ForAbove.{at_index, IsSource, IsThere, pairs_all, settled_sources}
 use Rattle.night_equal_writing.specs.Deliveries.{IsPlain}
 use Rattle.night_equal_night.proofs.There.{HasLetters, letters, begins}

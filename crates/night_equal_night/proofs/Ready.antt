@@ -5,10 +5,10 @@ use Rattle.std.proofs.lemmas.List.Elements.{All-head, All-tail}
 use Rattle.hub_kinds.specs.declared.interchange.InterchangeFault.{InterchangeFault}
 use Rattle.env_index.specs.Words.{IndexEntry, IndexValue, IsIndex, with_faults}
 use Rattle.partner_setup.specs.Setup.{SetupValue, sender_of}
-use Rattle.checked_text.specs.CheckedText.{CheckedInterchange, IsCheckedAs, AreCheckedAs, AreAnswersBy}
-use Rattle.checked_text.specs.Seen.{is_among}
-use Rattle.checked_text.specs.Settled.{fault_alone, fault_behind, fault_if_earlier, fault_with_sender, faults_from, kept_keys}
-use Rattle.checked_text.specs.Settled.{interchange_key_of, settled_entries, settled_faults}
+use Rattle.set_answers.specs.CheckedText.{CheckedInterchange, IsCheckedAs, AreCheckedAs, AreAnswersBy}
+use Rattle.set_answers.specs.Seen.{is_among}
+use Rattle.set_answers.specs.Settled.{fault_alone, fault_behind, fault_if_earlier, fault_with_sender, faults_from, kept_keys}
+use Rattle.set_answers.specs.Settled.{interchange_key_of, settled_entries, settled_faults}
 use Rattle.night_law.proofs.ForAbove.{IsSource, settled_sources}
 use Rattle.night_definition.specs.Interchanges.{Interchange, text_of}
 use Rattle.night_definition.specs.Setup.{Judged, judged_after}

@@ -5,8 +5,8 @@ use Rattle.std.specs.List.{AllZip}
 use Rattle.std.proofs.lemmas.List.Elements.{filter-append}
 use Rattle.env_index.specs.Words.{GroupEntry}
 use Rattle.env_index.specs.declared.entry.SetEnvelope.{SetEnvelope}
-use Rattle.judged_text.specs.Judged.{JudgedValue, PlacedValue, all_sets, is_refused, sets_from, sets_of, sets_of_groups_from, standing_at}
-use Rattle.judged_text.specs.declared.standing.GroupStanding.{GroupStanding}
+use Rattle.answered_sets.specs.Judged.{JudgedValue, PlacedValue, all_sets, is_refused, sets_from, sets_of, sets_of_groups_from, standing_at}
+use Rattle.answered_sets.specs.declared.standing.GroupStanding.{GroupStanding}
 use Rattle.night_report.specs.Report.{shown_from}
 use Rattle.night_definition.specs.Elements.{numbered}
 use Rattle.night_definition.specs.Answers.{Answer, AnsweredGroup, Answered}

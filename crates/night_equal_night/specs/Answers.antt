@@ -1,8 +1,8 @@
 -- What is answered to the groups and sets of an interchange is the same.
 use Rattle.std.specs.Prelude.{◌≡◌, List, [], map, Option}
 use Rattle.env_index.specs.Words.{GroupEntry}
-use Rattle.checked_text.specs.Answers.{SentValue, AreGroupAnswers}
-use Rattle.checked_text.specs.declared.answered.AnsweredGroup as then
+use Rattle.set_answers.specs.Answers.{SentValue, AreGroupAnswers}
+use Rattle.set_answers.specs.declared.answered.AnsweredGroup as then
 use Rattle.night_definition.specs.Envelopes.{Group}
 use Rattle.night_definition.specs.Answers.{groups_after}
 use Rattle.night_equal_text.specs.LookedUp.{seen_setup}

@@ -13,17 +13,17 @@ use Rattle.x12_write.specs.Number as old_number
 use Rattle.count_numbers.specs.Num as old_num
 use Rattle.guide_tree.specs.Tree.{GuideTree}
 use Rattle.guide_tree.specs.View.{guide_of}
-use Rattle.judged_text.specs.Judged.{PlacedValue, delims_in}
+use Rattle.answered_sets.specs.Judged.{PlacedValue, delims_in}
 use Rattle.mailbox.specs.Deliveries.{inner_in}
 use Rattle.mailbox.specs.Numbered.{NumberedValue, numbered_from}
-use Rattle.checked_text.specs.CheckedText.{CheckedInterchange}
-use Rattle.night_writing.specs.Night.{sets_to, judgements}
+use Rattle.set_answers.specs.CheckedText.{CheckedInterchange}
+use Rattle.night_batches.specs.Night.{sets_to, judgements}
 use Rattle.night_law.specs.SetsRead as then
 use Rattle.night_law.specs.SetsRead.{Said, Segments, said_in, set_said, sets_found, values_of_segment}
 use Rattle.night_definition.specs.Header.{divided}
 use Rattle.night_definition.specs.Segments.{Elements, Segment}
 use Rattle.night_definition.specs.Elements.{numbered}
-use Rattle.night_definition.specs.Written.{padded_number}
+use Rattle.night_definition.specs.Written.{set_number}
 use Rattle.night_definition.specs.Acknowledgments.{num}
 use Rattle.night_definition.specs.Deliveries.{Sent, delivered_to}
 use Rattle.night_definition.specs.Night.{answered_text}
@@ -110,7 +110,7 @@ module _ (texts : TextsAreOne) (p : PlacedValue) (x : Sent) (seen : IsSeen p x) 
   st = elements_of p.set.header
 
   abbrev control : List ℕ
-  control = old_number.padded_number 4 n
+  control = old_number.set_number n
 
   inner_are : map (λ (y : Segment). map (element_content d) y.elements) x.answer.set.inner
       ≡ map (λ (y : SegValue). values_of_segment d (elements_of y)) (inner_in p)
@@ -135,11 +135,11 @@ module _ (texts : TextsAreOne) (p : PlacedValue) (x : Sent) (seen : IsSeen p x) 
   pub content_of_set : set_content n x ≡ set_said p n
   content_of_set =
       ap (λ e. set_made e x.answer.set.header.elements (map (λ (y : Segment). map (element_content e) y.elements) x.answer.set.inner)
-      (length x.answer.set.inner) (padded_number 4 n)) seen.delims
+      (length x.answer.set.inner) (set_number n)) seen.delims
       ∙ ap (λ s. set_made d s (map (λ (y : Segment). map (element_content d) y.elements) x.answer.set.inner)
-      (length x.answer.set.inner) (padded_number 4 n)) seen.st
-      ∙ ap (λ i. set_made d st i (length x.answer.set.inner) (padded_number 4 n)) inner_are
-      ∙ ap (λ l. set_made d st then_inner l (padded_number 4 n)) inner_long
+      (length x.answer.set.inner) (set_number n)) seen.st
+      ∙ ap (λ i. set_made d st i (length x.answer.set.inner) (set_number n)) inner_are
+      ∙ ap (λ l. set_made d st then_inner l (set_number n)) inner_long
       ∙ ap (set_made d st then_inner (length (inner_in p))) (texts.number 4 n)
       ∙ ap (λ (h : List Said). h ∷ then_inner ++ trailer (length (inner_in p) + 2) control ∷ [])
       (header_is d st control plain.id (st_content d plain.s plain.t)

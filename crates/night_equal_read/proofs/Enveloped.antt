@@ -27,11 +27,11 @@ use Rattle.ack_999.specs.ReadBack.{IsQuotable, written_parts}
 use Rattle.ack_999.specs.Report.{shows_sets, text_999}
 use Rattle.ack_999.specs.Ta1.{ta1_text}
 use Rattle.ack_999.proofs.ForAbove.{IsReadable}
-use Rattle.judged_text.specs.Answered.{is_answered, ta1_note}
-use Rattle.checked_text.specs.declared.answered.AnsweredGroup.{AnsweredGroup}
-use Rattle.checked_text.specs.Acknowledgments.{Acknowledgment, acknowledgment_group_count, acknowledgment_text, present}
-use Rattle.checked_text.specs.Acknowledgments.{reports_from, ta1_of}
-use Rattle.checked_text.specs.CheckedText.{CheckedInterchange, acknowledgment_of, acknowledgments_from}
+use Rattle.answered_sets.specs.Answered.{is_answered, ta1_note}
+use Rattle.set_answers.specs.declared.answered.AnsweredGroup.{AnsweredGroup}
+use Rattle.set_answers.specs.Acknowledgments.{Acknowledgment, acknowledgment_group_count, acknowledgment_text, present}
+use Rattle.set_answers.specs.Acknowledgments.{reports_from, ta1_of}
+use Rattle.set_answers.specs.CheckedText.{CheckedInterchange, acknowledgment_of, acknowledgments_from}
 use Rattle.night_law.proofs.ForAbove.{ge, gs, iea, isa, isa_text, readable_ge, readable_gs, readable_iea, readable_isa}
 use Rattle.night_law.proofs.ForAbove.{readable_ta1, repeated, ta1}
 use Rattle.night_definition.specs.Segments.{Elements}

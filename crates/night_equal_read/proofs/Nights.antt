@@ -8,10 +8,10 @@ use Rattle.env_index.specs.Words.{IndexEntry, IndexValue, settled}
 use Rattle.partner_setup.specs.declared.partner.Partner.{Partner}
 use Rattle.partner_setup.specs.Setup.{SetupValue}
 use Rattle.partner_setup.specs.Sound.{IsSoundPartner, IsSoundSetup}
-use Rattle.checked_text.specs.CheckedText.{CheckedInterchange, acknowledged_to, acknowledgment_of}
-use Rattle.checked_text.specs.Settled.{settled_faults}
-use Rattle.night_writing.specs.Night.{IsNight}
-use Rattle.night_writing.specs.declared.night.Night as layer
+use Rattle.set_answers.specs.CheckedText.{CheckedInterchange, acknowledged_to, acknowledgment_of}
+use Rattle.set_answers.specs.Settled.{settled_faults}
+use Rattle.night_batches.specs.Night.{IsNight}
+use Rattle.night_batches.specs.declared.night.Night as layer
 use Rattle.night_law.specs.Quotable.{AreAllQuotable, IsGuidePlain}
 use Rattle.night_law.proofs.ForAbove.{IsRead, all_read, at_index, settled_headers, settled_sound}
 use Rattle.night_definition.specs.Segments.{Elements}

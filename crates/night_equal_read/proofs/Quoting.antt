@@ -12,13 +12,13 @@ use Rattle.partner_setup.specs.declared.partner.Partner.{Partner}
 use Rattle.partner_setup.specs.Setup.{SetupValue}
 use Rattle.partner_setup.specs.SetupFaults.{are_ids}
 use Rattle.partner_setup.specs.Sound.{IsSoundPartner}
-use Rattle.judged_text.specs.Judged.{is_fa, responded_groups}
-use Rattle.checked_text.specs.declared.answered.AnsweredGroup.{AnsweredGroup}
-use Rattle.checked_text.specs.Acknowledgments.{present}
-use Rattle.checked_text.specs.Answers.{SentValue}
-use Rattle.checked_text.specs.CheckedText.{AreAnswersBy, AreCheckedAs, CheckedInterchange, IsCheckedAs, acknowledged_to, is_acknowledged_to}
-use Rattle.checked_text.specs.CheckedText.{sent_by}
-use Rattle.checked_text.specs.Pairs.{AreAllPairs}
+use Rattle.answered_sets.specs.Judged.{is_fa, responded_groups}
+use Rattle.set_answers.specs.declared.answered.AnsweredGroup.{AnsweredGroup}
+use Rattle.set_answers.specs.Acknowledgments.{present}
+use Rattle.set_answers.specs.Answers.{SentValue}
+use Rattle.set_answers.specs.CheckedText.{AreAnswersBy, AreCheckedAs, CheckedInterchange, IsCheckedAs, acknowledged_to, is_acknowledged_to}
+use Rattle.set_answers.specs.CheckedText.{sent_by}
+use Rattle.set_answers.specs.Pairs.{AreAllPairs}
 use Rattle.night_law.specs.Quotable.{AreQuotable, IsGroupQuotable}
 use Rattle.night_law.specs.Told.{groups_told, is_told_to}
 use Rattle.night_law.proofs.ForAbove.{IsAnsweredGroup, IsGroupRead, IsRead, acknowledged_as_told, answered_anywhere, answers_here, at_index}

@@ -7,9 +7,9 @@ use Rattle.x12_bytes.specs.Header.{field_of}
 use Rattle.hub_kinds.specs.declared.set_codes.GroupCode.{GroupCode}
 use Rattle.hub_kinds.specs.declared.set_codes.GroupCode.TheVariants as ak905
 use Rattle.ack_999.specs.Report as old
-use Rattle.checked_text.specs.declared.answered.AnsweredGroup as layer
-use Rattle.checked_text.specs.Acknowledgments.{Acknowledgment, present}
-use Rattle.checked_text.specs.CheckedText.{CheckedInterchange, acknowledgment_of}
+use Rattle.set_answers.specs.declared.answered.AnsweredGroup as layer
+use Rattle.set_answers.specs.Acknowledgments.{Acknowledgment, present}
+use Rattle.set_answers.specs.CheckedText.{CheckedInterchange, acknowledgment_of}
 use Rattle.night_definition.specs.Header.{field}
 use Rattle.night_definition.specs.Segments.{Elements, element}
 use Rattle.night_definition.specs.Codes.{verdict_text}

@@ -22,11 +22,11 @@ use Rattle.set_check.specs.MeetsLaw.{IsWellGuided}
 use Rattle.set_check.specs.SetParts.{set_parts}
 use Rattle.set_check.proofs.ForAbove.{meets_by}
 use Rattle.number_register.specs.SeenNumbers.{is_among}
-use Rattle.checked_text.specs.Answers as answers
-use Rattle.checked_text.specs.Answers.{SentValue, IsSetAnswer}
-use Rattle.checked_text.specs.CheckedText.{AreAnswersBy, CheckedInterchange, sent_by}
-use Rattle.checked_text.specs.declared.answered.AnsweredGroup as layer
-use Rattle.checked_text.specs.Pairs.{AreAllPairs}
+use Rattle.set_answers.specs.Answers as answers
+use Rattle.set_answers.specs.Answers.{SentValue, IsSetAnswer}
+use Rattle.set_answers.specs.CheckedText.{AreAnswersBy, CheckedInterchange, sent_by}
+use Rattle.set_answers.specs.declared.answered.AnsweredGroup as layer
+use Rattle.set_answers.specs.Pairs.{AreAllPairs}
 use Rattle.night_law.proofs.ForAbove.{IsAnsweredGroup, answered_anywhere, pairs_tail}
 use Rattle.night_definition.specs.Segments.{Segment, element}
 use Rattle.night_definition.specs.Envelopes.{Set, Group}

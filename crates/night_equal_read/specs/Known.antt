@@ -2,9 +2,9 @@
 use Rattle.std.specs.Prelude.{ℕ, List}
 use Rattle.std.specs.List.{All, AllZip}
 use Rattle.partner_setup.specs.Setup.{SetupValue}
-use Rattle.judged_text.specs.Judged.{PlacedValue}
-use Rattle.checked_text.specs.CheckedText.{CheckedInterchange}
-use Rattle.night_writing.specs.Night.{IsKnown, judgements, sets_to}
+use Rattle.answered_sets.specs.Judged.{PlacedValue}
+use Rattle.set_answers.specs.CheckedText.{CheckedInterchange}
+use Rattle.night_batches.specs.Night.{IsKnown, judgements, sets_to}
 use Rattle.night_definition.specs.Answers.{AnsweredGroup}
 use Rattle.night_definition.specs.Deliveries.{Sent}
 use Rattle.night_definition.specs.Night.{answered_text}

@@ -4,9 +4,9 @@ use Rattle.moment.specs.Moment.{IsMoment}
 use Rattle.partner_setup.specs.declared.partner.Partner.{Partner}
 use Rattle.partner_setup.specs.Setup.{SetupValue}
 use Rattle.partner_setup.specs.Sound.{IsSoundSetup}
-use Rattle.checked_text.specs.CheckedText.{CheckedInterchange}
-use Rattle.night_writing.specs.Night as then
-use Rattle.night_writing.specs.declared.night.Night as layer
+use Rattle.set_answers.specs.CheckedText.{CheckedInterchange}
+use Rattle.night_batches.specs.Night as then
+use Rattle.night_batches.specs.declared.night.Night as layer
 use Rattle.night_law.specs.SetsRead.{AreBoxesRead}
 use Rattle.night_law.specs.WholeNight.{IsWholeNight}
 use Rattle.night_definition.specs.Setup.{Setup}

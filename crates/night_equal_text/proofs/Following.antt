@@ -22,9 +22,9 @@ use Rattle.set_check.specs.Checked.{guide_in, parts_in}
 use Rattle.set_check.specs.Codes as set_codes
 use Rattle.set_check.specs.SetParts.{set_parts}
 use Rattle.number_register.specs.SeenNumbers.{is_among}
-use Rattle.judged_text.specs.Judged.{is_fa}
-use Rattle.checked_text.specs.Answers as answers
-use Rattle.checked_text.specs.declared.answered.AnsweredGroup as layer
+use Rattle.answered_sets.specs.Judged.{is_fa}
+use Rattle.set_answers.specs.Answers as answers
+use Rattle.set_answers.specs.declared.answered.AnsweredGroup as layer
 use Rattle.night_definition.specs.Segments.{Segment, element}
 use Rattle.night_definition.specs.Envelopes.{Set, Group}
 use Rattle.night_definition.specs.Setup.{guide_of}

@@ -22,7 +22,7 @@ use Rattle.set_check.specs.Codes as codes
 use Rattle.number_register.specs.SeenNumbers.{is_among}
 use Rattle.partner_setup.specs.Setup.{SetupValue, has_group, has_version}
 use Rattle.partner_setup.specs.Setup as setups
-use Rattle.checked_text.specs.Answers as answers
+use Rattle.set_answers.specs.Answers as answers
 use Rattle.night_definition.specs.Segments.{Segment, element}
 use Rattle.night_definition.specs.Envelopes.{Set, Group}
 use Rattle.night_definition.specs.Setup.{is_number}

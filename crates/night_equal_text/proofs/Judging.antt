@@ -11,7 +11,7 @@ use Rattle.env_index.specs.Words as then
 use Rattle.number_register.specs.SeenNumbers.{is_among, interchange_key_of, number_key}
 use Rattle.partner_setup.specs.Setup.{SetupValue}
 use Rattle.partner_setup.specs.Setup as setups
-use Rattle.checked_text.specs.Settled as settled
+use Rattle.set_answers.specs.Settled as settled
 use Rattle.night_definition.specs.Segments.{Segment}
 use Rattle.night_definition.specs.Interchanges.{Interchange, text_of}
 use Rattle.night_definition.specs.Setup.{fault_by, fault_alone, fault_after, key_of, judged_after}

@@ -11,7 +11,7 @@ use Rattle.x12_bytes.specs.HeaderTest.{is_head}
 use Rattle.x12_bytes.specs.Header.{header_at, header_delims}
 use Rattle.env_index.specs.Words as then
 use Rattle.env_index.proofs.ForAbove.{no_head_past}
-use Rattle.batch_cut.proofs.ForAbove.{end_behind}
+use Rattle.whole_interchanges.proofs.ForAbove.{end_behind}
 use Rattle.night_definition.specs.Header as room
 use Rattle.night_definition.specs.Envelopes.{read, in_body}
 use Rattle.night_definition.specs.Interchanges.{Interchange, Reach, Text, interchange_at, with_byte, with_interchange, found_at}

@@ -6,7 +6,7 @@ use Rattle.hub_kinds.specs.declared.answers.SetAnswer.{SetAnswer}
 use Rattle.guide_tree.specs.Tree.{GuideTree}
 use Rattle.set_check.specs.Answer.{answer_to}
 use Rattle.set_check.specs.Checked.{Checked, IsChecked, guide_in, parts_in}
-use Rattle.checked_text.specs.declared.answered.AnsweredGroup as then
+use Rattle.set_answers.specs.declared.answered.AnsweredGroup as then
 use Rattle.night_definition.specs.Segments.{Segment, element}
 use Rattle.night_definition.specs.Envelopes.{Set}
 use Rattle.night_definition.specs.Sets.{faults_of, set_codes, verdict_on}

@@ -6,9 +6,9 @@ use Rattle.guide_tree.specs.View as rows
 use Rattle.partner_setup.specs.Setup.{SetupValue}
 use Rattle.partner_setup.specs.Setup as setups
 use Rattle.set_check.specs.Codes as codes
-use Rattle.checked_text.specs.Answers as answers
-use Rattle.checked_text.specs.Settled as settled
-use Rattle.checked_text.specs.declared.answered.AnsweredGroup as checked
+use Rattle.set_answers.specs.Answers as answers
+use Rattle.set_answers.specs.Settled as settled
+use Rattle.set_answers.specs.declared.answered.AnsweredGroup as checked
 use Rattle.number_register.specs.SeenNumbers.{is_among}
 use Rattle.env_index.specs.declared.entry.SetEnvelope.{SetEnvelope}
 use Rattle.env_index.specs.Words as then

@@ -260,7 +260,7 @@ pub report_segments_are : (d : Delims) (n : ℕ) (g : AnsweredGroup) → HaveThe
     ≡ map seen (inner_of d n g)
 report_segments_are d n g all =
     let gs : Elements = g.group.header.elements in
-    let st : Elements = codes "ST" ∷ codes "999" ∷ room_written.padded_number 4 n ∷ codes "005010X231" ∷ [] in
+    let st : Elements = codes "ST" ∷ codes "999" ∷ room_written.set_number n ∷ codes "005010X231" ∷ [] in
     let ak1 : Elements = codes "AK1" ∷ element 1 gs ∷ element 6 gs ∷ element 8 gs ∷ [] in
     let sets : List SetAnswer = map set_answer g.answers in
     ap (λ ak9. st ∷ ak1 ∷ (if list_any room.hides_sets g.codes then [] else flat_map (room.set_segments d) g.answers) ++ ak9 ∷ [])
@@ -279,13 +279,13 @@ pub report_is : (d : Delims) (n : ℕ) (g : AnsweredGroup) → HaveTheirCodes g
 report_is d n g all =
     let inner : List WrittenSegment = inner_of d n g in
     ap (λ (ss : List Elements). flat_map (room.written d) ss
-    ++ room.written d (codes "SE" ∷ decimal (length ss + 1) ∷ room_written.padded_number 4 n ∷ [])) (report_segments_are d n g all)
-    ∙ ap (λ t. t ++ room.written d (codes "SE" ∷ decimal (length (map seen inner) + 1) ∷ room_written.padded_number 4 n ∷ []))
+    ++ room.written d (codes "SE" ∷ decimal (length ss + 1) ∷ room_written.set_number n ∷ [])) (report_segments_are d n g all)
+    ∙ ap (λ t. t ++ room.written d (codes "SE" ∷ decimal (length (map seen inner) + 1) ∷ room_written.set_number n ∷ []))
     (written_is d inner)
-    ∙ ap (λ k. segments_text d inner ++ room.written d (codes "SE" ∷ decimal (k + 1) ∷ room_written.padded_number 4 n ∷ []))
+    ∙ ap (λ k. segments_text d inner ++ room.written d (codes "SE" ∷ decimal (k + 1) ∷ room_written.set_number n ∷ []))
     (length-map inner seen)
-    ∙ ap (λ t. segments_text d inner ++ t) (segment_is d (codes "SE") (decimal (length inner + 1) ∷ room_written.padded_number 4 n ∷ [])
-    ∙ sym (append-nil (segment_text d (codes "SE") (decimal (length inner + 1) ∷ room_written.padded_number 4 n ∷ []))))
+    ∙ ap (λ t. segments_text d inner ++ t) (segment_is d (codes "SE") (decimal (length inner + 1) ∷ room_written.set_number n ∷ [])
+    ∙ sym (append-nil (segment_text d (codes "SE") (decimal (length inner + 1) ∷ room_written.set_number n ∷ []))))
     ∙ sym (flat_map-append (λ (s : WrittenSegment). segment_text d s.id s.elements) inner (old.set_trailer (length inner + 1) n ∷ []))
 
 pub ta1_is : (d : Delims) (header note : List ℕ) → room.ta1_text d header note ≡ old_ta1.ta1_text d header note

@@ -24,11 +24,11 @@ use Rattle.count_numbers.specs.Num.{num}
 use Rattle.ack_999.specs.Interchange as old_interchange
 use Rattle.ack_999.specs.Report.{text_999}
 use Rattle.ack_999.specs.Ta1 as old_ta1
-use Rattle.judged_text.specs.Answered as old_note
-use Rattle.checked_text.specs.declared.answered.AnsweredGroup as layer
-use Rattle.checked_text.specs.Acknowledgments as old
-use Rattle.checked_text.specs.CheckedText as old_text
-use Rattle.checked_text.specs.CheckedText.{CheckedInterchange}
+use Rattle.answered_sets.specs.Answered as old_note
+use Rattle.set_answers.specs.declared.answered.AnsweredGroup as layer
+use Rattle.set_answers.specs.Acknowledgments as old
+use Rattle.set_answers.specs.CheckedText as old_text
+use Rattle.set_answers.specs.CheckedText.{CheckedInterchange}
 use Rattle.night_definition.specs.Elements.{numbered, is_this}
 use Rattle.night_definition.specs.Setup.{Setup, Judged}
 use Rattle.night_definition.specs.Answers.{Answered, AnsweredGroup}

@@ -10,7 +10,7 @@ use Rattle.x12_bytes.specs.declared.delims.Delims.{Delims}
 use Rattle.x12_segs.specs.Words.{Seg, SegValue, elements_of, view_of, span_segs}
 use Rattle.x12_write.specs.Delimiters as old_delims
 use Rattle.env_index.specs.Words.{span_of}
-use Rattle.judged_text.specs.Judged.{PlacedValue, delims_in}
+use Rattle.answered_sets.specs.Judged.{PlacedValue, delims_in}
 use Rattle.mailbox.specs.Deliveries as old
 use Rattle.night_definition.specs.Segments.{Elements, Segment, element}
 use Rattle.night_definition.specs.Acknowledgments as room_acks
@@ -50,13 +50,13 @@ swapped true false = refl
 swapped false true = refl
 swapped false false = refl
 
-pub in_way : (from to : Delims) (b : ℕ) → (room_acks.is_delimiter to b && not (room_acks.is_delimiter from b)) ≡ old.is_in_the_way from to b
+pub in_way : (from to : Delims) (b : ℕ) → (room_acks.is_delimiter to b && not (room_acks.is_delimiter from b)) ≡ old.collides from to b
 in_way from to b =
     swapped (room_acks.is_delimiter to b) (room_acks.is_delimiter from b)
     ∙ ap (λ t. not t && room_acks.is_delimiter to b) (delimiter_is from b)
     ∙ ap (λ t. not (old_delims.is_delimiter from b) && t) (delimiter_is to b)
 
-pub own_is_none : (from to : Delims) → old.is_in_the_way from to from.element ≡ false
+pub own_is_none : (from to : Delims) → old.collides from to from.element ≡ false
 own_is_none from to =
     ap (λ t. not (t || from.element == from.component || from.element == from.terminator
     || old_delims.is_this from.repetition from.element)
@@ -89,18 +89,18 @@ any_map q f [] = refl
 any_map q f (x ∷ xs) = ap (λ t. q (f x) || t) (any_map q f xs)
 
 inner_any : (from to : Delims) (segs : List Seg)
-    → list_any (λ (s : SegValue). list_any (old.is_text_in_the_way from to) (elements_of s)) (map (view_of from) segs)
-    ≡ list_any (λ (s : SegValue). old.is_text_in_the_way from to s.bytes) (map (view_of from) segs)
+    → list_any (λ (s : SegValue). list_any (old.has_collision from to) (elements_of s)) (map (view_of from) segs)
+    ≡ list_any (λ (s : SegValue). old.has_collision from to s.bytes) (map (view_of from) segs)
 inner_any from to segs =
-    any_map (λ (s : SegValue). list_any (old.is_text_in_the_way from to) (elements_of s)) (view_of from) segs
+    any_map (λ (s : SegValue). list_any (old.has_collision from to) (elements_of s)) (view_of from) segs
     ∙ ap (λ (h : Seg → Bool). list_any h segs) (fun_ext
-    (λ s. parts_any (old.is_in_the_way from to) from.element (own_is_none from to) s.bytes))
-    ∙ sym (any_map (λ (s : SegValue). old.is_text_in_the_way from to s.bytes) (view_of from) segs)
+    (λ s. parts_any (old.collides from to) from.element (own_is_none from to) s.bytes))
+    ∙ sym (any_map (λ (s : SegValue). old.has_collision from to s.bytes) (view_of from) segs)
 
 pub blocked_is : (to : Delims) (p : PlacedValue) (s : Sent) → IsSeen p s → room.is_blocked to s ≡ old.is_blocked to p
 blocked_is to p s is =
     let d : Delims = delims_in p in
-    let q : List ℕ → Bool = old.is_text_in_the_way d to in
+    let q : List ℕ → Bool = old.has_collision d to in
     let st : Elements = elements_of p.set.header in
     let inner : List Segment = s.answer.set.inner in
     ap (λ (d : Delims). list_any (λ e. list_any (λ b. room_acks.is_delimiter to b && not (room_acks.is_delimiter d b)) e)

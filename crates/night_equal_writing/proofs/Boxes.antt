@@ -17,7 +17,7 @@ use Rattle.guide_tree.specs.Tree.{GuideTree}
 use Rattle.partner_setup.specs.declared.partner.Partner.{Partner}
 use Rattle.partner_setup.specs.Envelopes.{envelope_to}
 use Rattle.partner_setup.specs.Setup.{SetupValue}
-use Rattle.judged_text.specs.Judged.{JudgedValue, PlacedValue}
+use Rattle.answered_sets.specs.Judged.{JudgedValue, PlacedValue}
 use Rattle.mailbox.specs.Deliveries as old
 use Rattle.mailbox.specs.Mailbox as old_box
 use Rattle.mailbox.specs.Numbered as old_numbered

@@ -10,8 +10,8 @@ use Rattle.std.specs.List.{join_with_byte}
 use Rattle.x12_bytes.specs.declared.delims.Delims.{Delims}
 use Rattle.x12_segs.specs.Words.{Seg, SegValue, elements_of, view_of}
 use Rattle.x12_write.specs.Delimiters as old_delims
-use Rattle.x12_write.specs.Number.{padded_number}
-use Rattle.judged_text.specs.Judged.{PlacedValue, delims_in}
+use Rattle.x12_write.specs.Number.{set_number}
+use Rattle.answered_sets.specs.Judged.{PlacedValue, delims_in}
 use Rattle.mailbox.specs.Deliveries as old
 use Rattle.mailbox.specs.Mailbox as old_box
 use Rattle.night_definition.specs.Segments.{Elements, Segment, element}
@@ -94,27 +94,27 @@ inner_text_is from to segs =
 abbrev header_by : (m : List ℕ → List ℕ) → (to : Delims) → (n : ℕ) → Elements → List ℕ
 header_by m to n st =
     codes "ST" ++ flat_map (λ e. to.element ∷ e) (map m (take 1 (drop 1 st)))
-    ++ flat_map (λ e. to.element ∷ e) (padded_number 4 n ∷ [])
+    ++ flat_map (λ e. to.element ∷ e) (set_number n ∷ [])
     ++ flat_map (λ e. to.element ∷ e) (map m (drop 2 (drop 1 st)))
     ++ to.terminator ∷ []
 
 header_is : (from to : Delims) (n : ℕ) (st : Elements) → element 0 st ≡ codes "ST" → room.mapped from to (codes "ST") ≡ codes "ST"
-    → (room.elements_text from to (take 2 st) ++ to.element ∷ padded_number 4 n
+    → (room.elements_text from to (take 2 st) ++ to.element ∷ set_number n
     ++ flat_map (λ e. to.element ∷ room.mapped from to e) (drop 3 st) ++ to.terminator ∷ [])
     ≡ header_by (room.mapped from to) to n st
 header_is from to n [] id same = cc
 header_is from to n (x ∷ rest) id same =
     let m : List ℕ → List ℕ = room.mapped from to in
-    ap (λ t. m t ++ flat_map (λ e. to.element ∷ m e) (take 1 rest) ++ to.element ∷ padded_number 4 n
+    ap (λ t. m t ++ flat_map (λ e. to.element ∷ m e) (take 1 rest) ++ to.element ∷ set_number n
     ++ flat_map (λ e. to.element ∷ m e) (drop 2 rest) ++ to.terminator ∷ []) id
-    ∙ ap (λ t. t ++ flat_map (λ e. to.element ∷ m e) (take 1 rest) ++ to.element ∷ padded_number 4 n
+    ∙ ap (λ t. t ++ flat_map (λ e. to.element ∷ m e) (take 1 rest) ++ to.element ∷ set_number n
     ++ flat_map (λ e. to.element ∷ m e) (drop 2 rest) ++ to.terminator ∷ []) same
-    ∙ ap (λ t. codes "ST" ++ t ++ to.element ∷ padded_number 4 n
+    ∙ ap (λ t. codes "ST" ++ t ++ to.element ∷ set_number n
     ++ flat_map (λ e. to.element ∷ m e) (drop 2 rest) ++ to.terminator ∷ []) (sym (flat_map-map (λ e. to.element ∷ e) m (take 1 rest)))
     ∙ ap (λ t. codes "ST" ++ flat_map (λ e. to.element ∷ e) (map m (take 1 rest)) ++ t
-    ++ flat_map (λ e. to.element ∷ m e) (drop 2 rest) ++ to.terminator ∷ []) (sym (append-nil (to.element ∷ padded_number 4 n)))
+    ++ flat_map (λ e. to.element ∷ m e) (drop 2 rest) ++ to.terminator ∷ []) (sym (append-nil (to.element ∷ set_number n)))
     ∙ ap (λ t. codes "ST" ++ flat_map (λ e. to.element ∷ e) (map m (take 1 rest))
-    ++ flat_map (λ e. to.element ∷ e) (padded_number 4 n ∷ [])
+    ++ flat_map (λ e. to.element ∷ e) (set_number n ∷ [])
     ++ t ++ to.terminator ∷ []) (sym (flat_map-map (λ e. to.element ∷ e) m (drop 2 rest)))
 
 abbrev text_by : (m : List ℕ → List ℕ) → (to : Delims) → (n : ℕ) → PlacedValue → List ℕ
@@ -129,8 +129,8 @@ text_is to control p s is plain =
     let st : Elements = elements_of p.set.header in
     let inner : List Segment = s.answer.set.inner in
     let els : Segment → Elements = λ (x : Segment). x.elements in
-    let se : ℕ → List ℕ = λ k. room_written.segment_text to (codes "SE") (decimal (k + 2) ∷ padded_number 4 control ∷ []) in
-    let head : Delims → Elements → List ℕ = λ d st. room.elements_text d to (take 2 st) ++ to.element ∷ padded_number 4 control
+    let se : ℕ → List ℕ = λ k. room_written.segment_text to (codes "SE") (decimal (k + 2) ∷ set_number control ∷ []) in
+    let head : Delims → Elements → List ℕ = λ d st. room.elements_text d to (take 2 st) ++ to.element ∷ set_number control
     ++ flat_map (λ e. to.element ∷ room.mapped d to e) (drop 3 st) ++ to.terminator ∷ [] in
     let body : Delims → List Segment → List ℕ = λ d inner. flat_map
     (λ (x : Segment). room.elements_text d to x.elements ++ to.terminator ∷ []) inner in
@@ -147,5 +147,5 @@ text_is to control p s is plain =
     ∙ ap (λ t. header_by (room.mapped d to) to control st
     ++ flat_map (λ (s : SegValue). room.mapped d to s.bytes ++ to.terminator ∷ []) (old.inner_in p) ++ t)
     (ap se (sym (length-map inner els) ∙ ap length is.inner ∙ length-map (old.inner_in p) elements_of)
-    ∙ segment_is to (codes "SE") (decimal (length (old.inner_in p) + 2) ∷ padded_number 4 control ∷ []))
+    ∙ segment_is to (codes "SE") (decimal (length (old.inner_in p) + 2) ∷ set_number control ∷ []))
     ∙ ap (λ (m : List ℕ → List ℕ). text_by m to control p) (fun_ext (mapped_is d to))

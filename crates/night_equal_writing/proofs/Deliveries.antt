@@ -14,7 +14,7 @@ use Rattle.partner_setup.specs.declared.partner.Partner.{Partner}
 use Rattle.partner_setup.specs.declared.partner.Route.{Route}
 use Rattle.partner_setup.specs.Setup as old_setup
 use Rattle.partner_setup.specs.Setup.{SetupValue}
-use Rattle.judged_text.specs.Judged.{JudgedValue, PlacedValue, all_sets, is_fa, is_refused, verdict_by_standing}
+use Rattle.answered_sets.specs.Judged.{JudgedValue, PlacedValue, all_sets, is_fa, is_refused, verdict_by_standing}
 use Rattle.mailbox.specs.declared.outcome.Outcome.TheVariants.{DeliveredTo, HeldForDelimiter}
 use Rattle.mailbox.specs.Deliveries as old
 use Rattle.night_definition.specs.Segments.{Elements, element}

@@ -13,8 +13,8 @@ use Rattle.hub_kinds.specs.declared.set_codes.GroupVerdict.{GroupVerdict}
 use Rattle.guide_tree.specs.Tree.{GuideTree}
 use Rattle.partner_setup.specs.declared.partner.Partner.{Partner}
 use Rattle.partner_setup.specs.Setup.{SetupValue}
-use Rattle.judged_text.specs.Answered as old_note
-use Rattle.judged_text.specs.Judged.{JudgedValue, PlacedValue, is_fa, is_refused}
+use Rattle.answered_sets.specs.Answered as old_note
+use Rattle.answered_sets.specs.Judged.{JudgedValue, PlacedValue, is_fa, is_refused}
 use Rattle.mailbox.specs.Deliveries as old_deliveries
 use Rattle.night_report.specs.Lines as old_lines
 use Rattle.night_report.specs.Report as old

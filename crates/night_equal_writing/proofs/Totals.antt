@@ -12,7 +12,7 @@ use Rattle.hub_kinds.specs.declared.interchange.InterchangeFault.{InterchangeFau
 use Rattle.guide_tree.specs.Tree.{GuideTree}
 use Rattle.partner_setup.specs.declared.partner.Partner.{Partner}
 use Rattle.partner_setup.specs.Setup.{SetupValue}
-use Rattle.judged_text.specs.Judged.{JudgedValue, PlacedValue, all_sets, is_fa, is_refused}
+use Rattle.answered_sets.specs.Judged.{JudgedValue, PlacedValue, all_sets, is_fa, is_refused}
 use Rattle.count_numbers.specs.Layout as old_layout
 use Rattle.mailbox.specs.declared.outcome.Outcome as layer
 use Rattle.mailbox.specs.Deliveries as old

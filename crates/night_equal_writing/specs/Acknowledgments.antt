@@ -13,9 +13,9 @@ use Rattle.ack_999.specs.Copy as old_copy
 use Rattle.ack_999.specs.Faults as old_faults
 use Rattle.ack_999.specs.Report as old_report
 use Rattle.ack_999.specs.Ta1 as old_ta1
-use Rattle.checked_text.specs.declared.answered.AnsweredGroup as layer
-use Rattle.checked_text.specs.Acknowledgments as old
-use Rattle.checked_text.specs.CheckedText.{CheckedInterchange, acknowledgment_of, acknowledgments_from}
+use Rattle.set_answers.specs.declared.answered.AnsweredGroup as layer
+use Rattle.set_answers.specs.Acknowledgments as old
+use Rattle.set_answers.specs.CheckedText.{CheckedInterchange, acknowledgment_of, acknowledgments_from}
 use Rattle.night_definition.specs.Segments.{Elements, element, Segment}
 use Rattle.night_definition.specs.Setup.{Setup}
 use Rattle.night_definition.specs.Answers.{Answer, AnsweredGroup, Answered}

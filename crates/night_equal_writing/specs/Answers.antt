@@ -5,10 +5,10 @@ use Rattle.env_index.specs.Words.{InterchangeEntry}
 use Rattle.partner_setup.specs.declared.partner.Partner.{Partner}
 use Rattle.partner_setup.specs.Envelopes.{envelope_between}
 use Rattle.partner_setup.specs.Setup.{SetupValue}
-use Rattle.judged_text.specs.Answered as old_note
-use Rattle.checked_text.specs.Acknowledgments as old
-use Rattle.checked_text.specs.CheckedText as old_text
-use Rattle.checked_text.specs.CheckedText.{CheckedInterchange}
+use Rattle.answered_sets.specs.Answered as old_note
+use Rattle.set_answers.specs.Acknowledgments as old
+use Rattle.set_answers.specs.CheckedText as old_text
+use Rattle.set_answers.specs.CheckedText.{CheckedInterchange}
 use Rattle.night_definition.specs.Setup.{Setup, Judged}
 use Rattle.night_definition.specs.Answers.{Answered}
 use Rattle.night_definition.specs.Acknowledgments as room

@@ -7,7 +7,7 @@ use Rattle.x12_write.specs.Delimiters.{is_delimiter}
 use Rattle.guide_tree.specs.Tree.{GuideTree}
 use Rattle.partner_setup.specs.declared.partner.Partner.{Partner}
 use Rattle.partner_setup.specs.Setup.{SetupValue}
-use Rattle.judged_text.specs.Judged.{JudgedValue, PlacedValue, all_sets, delims_in, is_fa, is_refused, verdict_by_standing}
+use Rattle.answered_sets.specs.Judged.{JudgedValue, PlacedValue, all_sets, delims_in, is_fa, is_refused, verdict_by_standing}
 use Rattle.mailbox.specs.declared.outcome.Outcome as layer
 use Rattle.mailbox.specs.declared.outcome.Outcome.TheVariants.{DeliveredTo, HeldForDelimiter, HeldForRoute}
 use Rattle.mailbox.specs.Deliveries as old

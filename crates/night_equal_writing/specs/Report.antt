@@ -4,7 +4,7 @@ use Rattle.std.specs.List.{AllZip}
 use Rattle.x12_segs.specs.Words.{elements_of}
 use Rattle.guide_tree.specs.Tree.{GuideTree}
 use Rattle.partner_setup.specs.Setup.{SetupValue}
-use Rattle.judged_text.specs.Judged.{JudgedValue, PlacedValue, is_fa}
+use Rattle.answered_sets.specs.Judged.{JudgedValue, PlacedValue, is_fa}
 use Rattle.night_report.specs.Report as old
 use Rattle.night_report.specs.Report.{ShownGroup}
 use Rattle.night_definition.specs.Elements.{numbered}

@@ -4,7 +4,7 @@ use Rattle.std.specs.List.{AllZip}
 use Rattle.guide_tree.specs.Tree.{GuideTree}
 use Rattle.partner_setup.specs.declared.partner.Partner.{Partner}
 use Rattle.partner_setup.specs.Setup.{SetupValue}
-use Rattle.judged_text.specs.Judged.{JudgedValue}
+use Rattle.answered_sets.specs.Judged.{JudgedValue}
 use Rattle.count_numbers.specs.Layout as old_layout
 use Rattle.mailbox.specs.Deliveries as old
 use Rattle.mailbox.specs.Mailbox as old_box

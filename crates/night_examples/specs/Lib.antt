@@ -29,10 +29,12 @@ pub mod Guide27
 pub mod Guide28
 pub mod Guide29
 pub mod NightAcknowledgmentAskedFor
+pub mod NightAcknowledgmentsAskedForWithoutSets
 pub mod NightBytesOutside
 pub mod NightControlNumberAndCountWrong
 pub mod NightCutOffResentAndSentAgain
 pub mod NightDateOfNoDigitsNotAnswered
+pub mod NightEachInterchangeFault
 pub mod NightElementsWrong
 pub mod NightFirstBytes000
 pub mod NightFirstBytes001

@@ -1,8 +1,10 @@
 ghost use Rattle.night_examples.specs.NightAcknowledgmentAskedFor.{Computes as AcknowledgmentAskedFor};
+ghost use Rattle.night_examples.specs.NightAcknowledgmentsAskedForWithoutSets.{Computes as AcknowledgmentsAskedForWithoutSets};
 ghost use Rattle.night_examples.specs.NightBytesOutside.{Computes as BytesOutside};
 ghost use Rattle.night_examples.specs.NightControlNumberAndCountWrong.{Computes as ControlNumberAndCountWrong};
 ghost use Rattle.night_examples.specs.NightCutOffResentAndSentAgain.{Computes as CutOffResentAndSentAgain};
 ghost use Rattle.night_examples.specs.NightDateOfNoDigitsNotAnswered.{Computes as DateOfNoDigitsNotAnswered};
+ghost use Rattle.night_examples.specs.NightEachInterchangeFault.{Computes as EachInterchangeFault};
 ghost use Rattle.night_examples.specs.NightElementsWrong.{Computes as ElementsWrong};
 ghost use Rattle.night_examples.specs.NightFirstBytes000.{Computes as FirstBytes000};
 ghost use Rattle.night_examples.specs.NightFirstBytes001.{Computes as FirstBytes001};
@@ -66,6 +68,11 @@ pub fn acknowledgment_asked_for()
     ensures { AcknowledgmentAskedFor }
 {}
 
+/// The night `acknowledgments_asked_for_without_sets`, computed by the definition.
+pub fn acknowledgments_asked_for_without_sets()
+    ensures { AcknowledgmentsAskedForWithoutSets }
+{}
+
 /// The night `bytes_outside`, computed by the definition.
 pub fn bytes_outside()
     ensures { BytesOutside }
@@ -84,6 +91,11 @@ pub fn cut_off_resent_and_sent_again()
 /// The night `date_of_no_digits_not_answered`, computed by the definition.
 pub fn date_of_no_digits_not_answered()
     ensures { DateOfNoDigitsNotAnswered }
+{}
+
+/// The night `each_interchange_fault`, computed by the definition.
+pub fn each_interchange_fault()
+    ensures { EachInterchangeFault }
 {}
 
 /// The night `elements_wrong`, computed by the definition.

@@ -5,7 +5,7 @@ use Rattle.archived_nights.specs.declared.fault.ArchiveFile.{ArchiveFile}
 use Rattle.archived_nights.specs.declared.fault.ArchiveFile.TheVariants as paper
 use Rattle.archived_nights.specs.declared.read.ArchivePapers.{ArchivePapers}
 use Rattle.hub_ledger.specs.declared.entry.NightEntry.{NightEntry}
-use Rattle.night_ends.specs.Outbox.{path_in}
+use Rattle.system_io.specs.Outbox.{path_in}
 use Rattle.night_marks.specs.declared.bad.FileState.{FileState}
 use Rattle.night_marks.specs.declared.bad.FileState.TheVariants as state
 use Rattle.night_marks.specs.declared.bad.NightFile.{NightFile}

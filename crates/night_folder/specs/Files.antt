@@ -1,6 +1,6 @@
 -- Files and folders that were asked for by their paths (own): what was read of each.
 use Rattle.std.specs.Prelude.{ℕ, ◌==◌, List, [], ◌∷◌, Option, Some, None, if◌then◌else◌}
-use Rattle.night_ends.specs.Outbox.{path_in}
+use Rattle.system_io.specs.Outbox.{path_in}
 use Rattle.night_marks.specs.declared.bad.NightFile.{NightFile}
 
 -- a file: its bytes, if it can be read

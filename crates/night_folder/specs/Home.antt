@@ -1,6 +1,6 @@
 -- Where the folder of a night is (own): that of nights which are archived as one is beside the others.
 use Rattle.std.specs.Prelude.{ℕ, List, codes, if◌then◌else◌}
-use Rattle.night_ends.specs.Outbox.{path_in}
+use Rattle.system_io.specs.Outbox.{path_in}
 use Rattle.night_marks.specs.declared.mark.NightMark.{NightMark}
 
 -- the folder of archived nights, in that of the nights; its name begins with a dot, so no night has it

@@ -1,6 +1,6 @@
 -- The nights of a folder (own): each folder in it that has a file `done`.
 use Rattle.std.specs.Prelude.{◌≡◌, ◌⊎◌, ℕ, ◌==◌, Bool, true, false, List, [], ◌∷◌, Option, Some, None, Ok, codes}
-use Rattle.night_ends.specs.Paths.{Look}
+use Rattle.system_io.specs.Paths.{Look}
 use Rattle.night_folder.specs.Files.{FileValue, bytes_or_none, first_line, in_night}
 use Rattle.night_marks.specs.declared.mark.NightMark.{NightMark}
 

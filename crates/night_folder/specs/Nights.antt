@@ -4,7 +4,7 @@ use Rattle.std.specs.List.{AllZip, starts_with}
 use Rattle.hex.specs.Hex.{encode_lower}
 use Rattle.sha2.specs.Sha256.{sha256}
 use Rattle.hub_ledger.specs.declared.entry.NightEntry.{NightEntry}
-use Rattle.night_ends.specs.Outbox.{path_in}
+use Rattle.system_io.specs.Outbox.{path_in}
 use Rattle.night_entries.specs.Entry.{IsEntry}
 use Rattle.night_entries.specs.Refused.{IsRefused}
 use Rattle.night_entries.specs.declared.entry.Papers.{Papers}

@@ -82,7 +82,7 @@ fn fault_of(fault: ArchiveFault) -> NightFault
     }
 }
 
-/// What is kept of archived nights, by their files.
+/// The entry of archived nights that `mark` names, made from `files`.
 fn entry_by(alloc: Global, mark: &NightMark, files: &ArchiveFiles) -> Result<NightEntry, NightFault>
     ensures entry { IfOk result (spec.IsArchiveEntry mark.now files.now) }
     ensures fault { IfErr result (spec.IsArchiveFault mark.now files.now) }
@@ -97,7 +97,7 @@ fn entry_by(alloc: Global, mark: &NightMark, files: &ArchiveFiles) -> Result<Nig
     }
 }
 
-/// What was read of archived nights, by their files. The only error is out of memory.
+/// What `files` of the archived nights at `mark` give: their entry, or the bad file. The only error is out of memory.
 fn read_of(alloc: Global, mark: &NightMark, files: &ArchiveFiles) -> Result<NightRead, NoMemory>
     ensures { IfOk result (spec.IsArchiveReadOf mark.now files.now) }
 {
@@ -112,7 +112,7 @@ fn read_of(alloc: Global, mark: &NightMark, files: &ArchiveFiles) -> Result<Nigh
     }
 }
 
-/// Reads the archived nights `mark` of the folder at the path `nights`. The only error is out of memory.
+/// Reads the archived nights that `mark` names, in the folder at the path `nights`. The only error is out of memory.
 pub(crate) fn read_archived<R: Files + AllocGlobal>(
     rt: &R,
     nights: &[u8],

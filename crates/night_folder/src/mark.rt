@@ -5,11 +5,11 @@ ghost use Rattle.night_folder.specs.Marks as marks;
 
 use crate::paper::{first_line, path_in, read_paper};
 use hub_kinds::{NoMemory, Text, copy_text};
-use night_ends::{Presence, look_at};
 use night_marks::NightMark;
 use std::alloc::Global;
 use std::rt::Files;
 use std::str;
+use system_io::{Presence, look_at};
 
 fn is_hidden(name: &[u8]) -> bool
     ensures { result ≡ marks.is_hidden name.now }

@@ -1,14 +1,14 @@
 ghost use Rattle.std.specs.Prelude.{◌≡◌, ◌++◌, None, Some, Ok, IfErr, IfOk, IfSome, IsOk};
-ghost use Rattle.night_ends.specs.Outbox.{path_in};
+ghost use Rattle.system_io.specs.Outbox.{path_in};
 ghost use Rattle.night_folder.specs.Files as files;
 
 use hub_kinds::{Items, NoMemory, Text, copy_text};
-use night_ends::{Opened, open_at, read_whole};
 use std::alloc::Global;
 use std::io::Read;
 use std::marker::Model;
 use std::rt::Files;
 use std::{io, str};
+use system_io::{Opened, open_at, read_whole};
 
 /// A file that was asked for by its path, and its bytes if it can be read. Only `read_paper` and `paper_of` make one.
 #[derive(Drop)]

@@ -1,6 +1,6 @@
 ghost use Rattle.std.specs.Prelude.{◌≡◌, ◌++◌, IfOk, IfSome, codes, map, option_map};
 ghost use Rattle.std.specs.List.{AllZip};
-ghost use Rattle.night_ends.specs.Outbox.{path_in};
+ghost use Rattle.system_io.specs.Outbox.{path_in};
 ghost use Rattle.night_folder.specs.Nights as nights;
 
 use crate::listing::list_at;

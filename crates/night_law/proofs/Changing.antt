@@ -9,7 +9,7 @@ use Rattle.std.proofs.lemmas.List.Splits.{slice_split_none}
 use Rattle.x12_bytes.specs.declared.delims.Delims.{Delims}
 use Rattle.x12_segs.specs.Words.{parts, components, occurrences}
 use Rattle.x12_write.specs.Delimiters.{is_delimiter, is_this}
-use Rattle.mailbox.specs.Deliveries.{is_in_the_way}
+use Rattle.mailbox.specs.Deliveries.{collides}
 use Rattle.mailbox.specs.Mailbox.{mapped, mapped_byte}
 use Rattle.night_law.specs.SetsRead.{values_of_segment, said_in}
 use Rattle.night_law.proofs.Splitting.{all_both, map_as, map_none, parts_all, parts_by_same, parts_changed, parts_lack}
@@ -110,7 +110,7 @@ module _ (from to : Delims) (r : ℕ) (has : to.repetition ≡ Some r) (apart_fr
 
   -- nothing in the way
   abbrev pub Free : ℕ → Type 0
-  Free b = is_in_the_way from to b ≡ false
+  Free b = collides from to b ≡ false
 
   r_repetition : (x : ℕ) → is_this to.repetition x ≡ false → (r == x) ≡ false
   r_repetition x off = sym (ap (λ (o : Option ℕ). is_this o x) has) ∙ off

@@ -18,18 +18,18 @@ use Rattle.partner_setup.specs.SetupFaults.{may_end}
 use Rattle.partner_setup.specs.Sound.{IsSoundPartner, IsSoundSetup}
 use Rattle.partner_setup.proofs.ForAbove.{undivided}
 use Rattle.mailbox.specs.declared.outcome.Outcome.TheVariants.{DeliveredTo, HeldForDelimiter}
-use Rattle.judged_text.specs.declared.standing.GroupStanding.{GroupStanding}
+use Rattle.answered_sets.specs.declared.standing.GroupStanding.{GroupStanding}
 use Rattle.mailbox.specs.Deliveries.{is_not_rejected, is_blocked, is_deliverable, is_delivered_to, is_delivery_to, outcome_at}
 use Rattle.mailbox.specs.Deliveries.{outcome_by, outcomes_on}
-use Rattle.judged_text.specs.Judged.{JudgedValue, PlacedValue, all_sets, delims_in, sets_of_groups_from, is_fa, is_refused, sets_from}
-use Rattle.judged_text.specs.Judged.{sets_of}
-use Rattle.judged_text.specs.Judged.{standing_at, verdict_by_standing}
+use Rattle.answered_sets.specs.Judged.{JudgedValue, PlacedValue, all_sets, delims_in, sets_of_groups_from, is_fa, is_refused, sets_from}
+use Rattle.answered_sets.specs.Judged.{sets_of}
+use Rattle.answered_sets.specs.Judged.{standing_at, verdict_by_standing}
 use Rattle.mailbox.specs.Mailbox.{code_by}
 use Rattle.mailbox.specs.Numbered.{sender_in}
-use Rattle.checked_text.specs.CheckedText.{CheckedInterchange, IsCheckedAs, acknowledged_to, groups_to, judged}
-use Rattle.checked_text.specs.Settled.{settled_faults}
-use Rattle.night_writing.specs.declared.night.Night.{Night}
-use Rattle.night_writing.specs.Night.{IsNight, box_of, sets_to}
+use Rattle.set_answers.specs.CheckedText.{CheckedInterchange, IsCheckedAs, acknowledged_to, groups_to, judged}
+use Rattle.set_answers.specs.Settled.{settled_faults}
+use Rattle.night_batches.specs.declared.night.Night.{Night}
+use Rattle.night_batches.specs.Night.{IsNight, box_of, sets_to}
 use Rattle.night_law.specs.SetsRead.{AreBoxesRead, AreSetsFound}
 use Rattle.night_law.proofs.Mailboxes.{IsReady, sets_are_found}
 use Rattle.night_law.proofs.Changing.{AreApart}

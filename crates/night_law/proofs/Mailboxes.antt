@@ -24,7 +24,7 @@ use Rattle.partner_setup.specs.Envelopes.{envelope_to}
 use Rattle.partner_setup.specs.Setup.{SetupValue}
 use Rattle.partner_setup.specs.SetupFaults.{are_ids}
 use Rattle.partner_setup.specs.Sound.{IsSoundPartner}
-use Rattle.judged_text.specs.Judged.{PlacedValue}
+use Rattle.answered_sets.specs.Judged.{PlacedValue}
 use Rattle.mailbox.specs.Mailbox.{box_text, delivered_group_text, delivered_text, delivered_texts, groups_text, numbered_text, sender_code}
 use Rattle.mailbox.specs.Numbered.{NumberedValue, goes_with, groups_of, numbered_from, onto_groups}
 use Rattle.count_numbers.proofs.ForAbove.{first_interchange, no_interchange}

@@ -5,10 +5,10 @@ use Rattle.env_index.specs.Words.{IndexValue, settled}
 use Rattle.env_index.proofs.ForAbove.{index_is_one}
 use Rattle.partner_setup.specs.declared.partner.Partner.{Partner}
 use Rattle.partner_setup.specs.Setup.{SetupValue}
-use Rattle.checked_text.specs.CheckedText.{CheckedInterchange, AreCheckedAs}
-use Rattle.checked_text.specs.Settled.{settled_faults}
-use Rattle.night_writing.specs.declared.night.Night.{Night}
-use Rattle.night_writing.specs.Night.{AreForPartners, IsKnown, IsNight, IsNightOf, acks_of, box_of, next_of}
+use Rattle.set_answers.specs.CheckedText.{CheckedInterchange, AreCheckedAs}
+use Rattle.set_answers.specs.Settled.{settled_faults}
+use Rattle.night_batches.specs.declared.night.Night.{Night}
+use Rattle.night_batches.specs.Night.{AreForPartners, IsKnown, IsNight, IsNightOf, acks_of, box_of, next_of}
 use Rattle.night_law.proofs.Once.{checked_once, pairs_once}
 
 for_partners_once : {A : Type 0} (setup : SetupValue) (f : ℕ → Partner → A) (xs ys : List A)

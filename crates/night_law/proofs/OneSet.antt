@@ -14,12 +14,12 @@ use Rattle.std.proofs.lemmas.List.Elements.{All-weaker}
 use Rattle.std.proofs.lemmas.List.Folds.{flat_map-map}
 use Rattle.x12_bytes.specs.declared.delims.Delims.{Delims}
 use Rattle.x12_segs.specs.Words.{may_stand_in_set, kind_of, parts, SegValue, elements_of, part_or_empty}
-use Rattle.x12_write.specs.Number.{padded_number}
+use Rattle.x12_write.specs.Number.{set_number}
 use Rattle.x12_write.specs.Segment.{elements_text}
 use Rattle.x12_write.specs.Undivided.{CanDivide, IsUndivided}
-use Rattle.x12_write.proofs.ForAbove.{decimal-undivided, padded_number-undivided, plain-undivided, trimmed-push_full}
-use Rattle.mailbox.specs.Deliveries.{inner_in, is_blocked, is_in_the_way, is_text_in_the_way, kept_parts}
-use Rattle.judged_text.specs.Judged.{PlacedValue, delims_in}
+use Rattle.x12_write.proofs.ForAbove.{decimal-undivided, plain-undivided, set_number-undivided, trimmed-push_full}
+use Rattle.mailbox.specs.Deliveries.{inner_in, is_blocked, collides, has_collision, kept_parts}
+use Rattle.answered_sets.specs.Judged.{PlacedValue, delims_in}
 use Rattle.mailbox.specs.Mailbox.{inner_text, mapped, set_header_text, set_text, set_trailer_text}
 use Rattle.night_law.specs.SetsRead.{Said, Segments, header_said, plainly, values_of_segment, said_in, set_said, sets_read}
 use Rattle.night_law.specs.SetsRead.{trailer_said}
@@ -54,13 +54,13 @@ module _ (to : Delims) (marked : IsMarked to) (can : CanDivide to) (p : PlacedVa
   from = delims_in p
 
   abbrev F : ℕ → Type 0
-  F b = is_in_the_way from to b ≡ false
+  F b = collides from to b ≡ false
 
   abbrev change : List ℕ → List ℕ
   change text = mapped from to text
 
   abbrev number : List ℕ
-  number = padded_number 4 n
+  number = set_number n
 
   abbrev es : List (List ℕ)
   es = elements_of p.set.header
@@ -74,22 +74,22 @@ module _ (to : Delims) (marked : IsMarked to) (can : CanDivide to) (p : PlacedVa
   abbrev inner : List SegValue
   inner = inner_in p
 
-  free_both : (list_any (is_text_in_the_way from to) (kept_parts p.set.header) ≡ false)
-      × (list_any (λ seg. is_text_in_the_way from to seg.bytes) inner ≡ false)
-  free_both = or_parts (list_any (is_text_in_the_way from to) (kept_parts p.set.header))
-      (list_any (λ seg. is_text_in_the_way from to seg.bytes) inner) fit.free
+  free_both : (list_any (has_collision from to) (kept_parts p.set.header) ≡ false)
+      × (list_any (λ seg. has_collision from to seg.bytes) inner ≡ false)
+  free_both = or_parts (list_any (has_collision from to) (kept_parts p.set.header))
+      (list_any (λ seg. has_collision from to seg.bytes) inner) fit.free
 
   kept_free : All (All F) (xs ++ ys)
   kept_free =
-      All-tail (All F) (part_or_empty es 0) (xs ++ ys) (All-weaker (λ t. is_text_in_the_way from to t ≡ false) (All F)
-      (λ t off. none_any (is_in_the_way from to) t off) (kept_parts p.set.header)
-      (none_any (is_text_in_the_way from to) (kept_parts p.set.header) free_both.0))
+      All-tail (All F) (part_or_empty es 0) (xs ++ ys) (All-weaker (λ t. has_collision from to t ≡ false) (All F)
+      (λ t off. none_any (collides from to) t off) (kept_parts p.set.header)
+      (none_any (has_collision from to) (kept_parts p.set.header) free_both.0))
 
   inner_free : All (λ seg. All F seg.bytes) inner
   inner_free =
-      All-weaker (λ (seg : SegValue). is_text_in_the_way from to seg.bytes ≡ false) (λ seg. All F seg.bytes)
-      (λ seg off. none_any (is_in_the_way from to) seg.bytes off) inner
-      (none_any (λ (seg : SegValue). is_text_in_the_way from to seg.bytes) inner free_both.1)
+      All-weaker (λ (seg : SegValue). has_collision from to seg.bytes ≡ false) (λ seg. All F seg.bytes)
+      (λ seg off. none_any (collides from to) seg.bytes off) inner
+      (none_any (λ (seg : SegValue). has_collision from to seg.bytes) inner free_both.1)
 
   -- the elements of ST
   abbrev Lt : ℕ → Type 0
@@ -132,7 +132,7 @@ module _ (to : Delims) (marked : IsMarked to) (can : CanDivide to) (p : PlacedVa
   st_body = body_of to (codes "ST") st_elements
 
   number_undivided : IsUndivided to number
-  number_undivided = padded_number-undivided to can 4 n
+  number_undivided = set_number-undivided to can n
 
   all_divided : (c : ℕ) → Lacks c number → All (Lacks c) (map change xs) → All (Lacks c) (map change ys) → All (Lacks c) st_elements
   all_divided c here front back =
@@ -168,7 +168,7 @@ module _ (to : Delims) (marked : IsMarked to) (can : CanDivide to) (p : PlacedVa
   said_plainly text undivided = plainly_said to marked text undivided
 
   number_said : said_in to number ≡ plainly number
-  number_said = said_plainly number (padded_number-undivided (inner_delims to marked.r) marked.inside 4 n)
+  number_said = said_plainly number (set_number-undivided (inner_delims to marked.r) marked.inside n)
 
   st_said : values_of_segment to (codes "ST" ∷ st_elements) ≡ header_said (values_of_segment from es) n
   st_said =

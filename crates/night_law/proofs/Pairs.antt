@@ -3,8 +3,8 @@ use Rattle.std.proofs.Common.{◌≡◌, ◌<◌, ℕ, zero, suc, List, [], ◌�
 use Rattle.std.specs.Prelude.{option_map, slice_get}
 use Rattle.std.proofs.lemmas.List.{length-map}
 use Rattle.std.proofs.lemmas.Option.{slice_get-map, slice_get_within}
-use Rattle.checked_text.specs.Pairs.{AreAllPairs}
-use Rattle.checked_text.proofs.ForAbove.{there_is}
+use Rattle.set_answers.specs.Pairs.{AreAllPairs}
+use Rattle.set_answers.proofs.ForAbove.{there_is}
 
 pub pairs_weaker : {A B : Type 0} (R S : ℕ → A → B → Type 0) (xs : List A) (ys : List B)
     → ((n : ℕ) (x : A) (y : B) → R n x y → S n x y) → AreAllPairs R xs ys → AreAllPairs S xs ys

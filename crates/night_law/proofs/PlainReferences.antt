@@ -15,15 +15,15 @@ use Rattle.guide_tree.specs.View as view
 use Rattle.elem_rules.specs.Rows.{component_reference, components_of, element_reference}
 use Rattle.env_index.specs.Words.{IndexEntry, settled, GroupEntry}
 use Rattle.env_index.specs.declared.entry.SetEnvelope.{SetEnvelope}
-use Rattle.judged_text.specs.Judged.{responded_groups}
+use Rattle.answered_sets.specs.Judged.{responded_groups}
 use Rattle.partner_setup.specs.declared.partner.Partner.{Partner}
 use Rattle.partner_setup.specs.Names.{and_some, those_at}
 use Rattle.partner_setup.specs.Setup.{SetupValue, guide_for_set, guides_of, is_for_set, places_of}
 use Rattle.partner_setup.specs.Sound.{IsSoundPartner, IsSoundSetup}
 use Rattle.set_check.specs.Checked.{guide_tree_of}
-use Rattle.checked_text.specs.Answers.{SentValue}
-use Rattle.checked_text.specs.CheckedText.{sent_by}
-use Rattle.checked_text.specs.Settled.{settled_faults}
+use Rattle.set_answers.specs.Answers.{SentValue}
+use Rattle.set_answers.specs.CheckedText.{sent_by}
+use Rattle.set_answers.specs.Settled.{settled_faults}
 use Rattle.night_law.specs.Quotable.{AreAllQuotable, AreQuotable, IsGroupQuotable, IsGuidePlain, IsGuideQuotable, IsNodePlain}
 use Rattle.night_law.specs.Quotable.{IsNodeQuotable}
 use Rattle.night_law.specs.Quotable.{IsPlainReference, IsRowPlain, IsRowQuotable}

@@ -19,22 +19,22 @@ use Rattle.partner_setup.specs.Setup.{SetupValue, sender_of}
 use Rattle.partner_setup.specs.Sound.{IsSoundPartner, IsSoundSetup}
 use Rattle.partner_setup.specs.SetupFaults.{are_ids}
 use Rattle.hub_kinds.specs.declared.interchange.InterchangeFault.{InterchangeFault}
-use Rattle.judged_text.specs.Answered.{ta1_note}
-use Rattle.judged_text.specs.Judged.{responded_groups}
+use Rattle.answered_sets.specs.Answered.{ta1_note}
+use Rattle.answered_sets.specs.Judged.{responded_groups}
 use Rattle.ack_999.specs.Interchange.{group_count, group_part, interchange_text, ta1_part}
 use Rattle.ack_999.specs.Ta1.{ta1_text}
 use Rattle.ack_999.specs.ReadBack.{written_parts}
 use Rattle.ack_999.proofs.ForAbove.{IsReadable}
 use Rattle.ack_999.specs.Report.{shows_sets, text_999}
-use Rattle.checked_text.specs.declared.answered.AnsweredGroup.{AnsweredGroup}
-use Rattle.checked_text.specs.Acknowledgments.{acknowledgment_text, acknowledgment_group_count, present, reports_from, ta1_of}
-use Rattle.checked_text.specs.Answers.{SentValue}
-use Rattle.checked_text.specs.CheckedText.{CheckedInterchange, AreCheckedAs, IsCheckedAs, acknowledged_to, acknowledgments_from}
-use Rattle.checked_text.specs.CheckedText.{AreAnswersBy, acknowledgment_of, is_acknowledged_to, sent_by}
-use Rattle.checked_text.specs.Pairs.{AreAllPairs}
-use Rattle.checked_text.specs.Settled.{settled_faults}
-use Rattle.night_writing.specs.declared.night.Night.{Night}
-use Rattle.night_writing.specs.Night.{IsNight, acks_of}
+use Rattle.set_answers.specs.declared.answered.AnsweredGroup.{AnsweredGroup}
+use Rattle.set_answers.specs.Acknowledgments.{acknowledgment_text, acknowledgment_group_count, present, reports_from, ta1_of}
+use Rattle.set_answers.specs.Answers.{SentValue}
+use Rattle.set_answers.specs.CheckedText.{CheckedInterchange, AreCheckedAs, IsCheckedAs, acknowledged_to, acknowledgments_from}
+use Rattle.set_answers.specs.CheckedText.{AreAnswersBy, acknowledgment_of, is_acknowledged_to, sent_by}
+use Rattle.set_answers.specs.Pairs.{AreAllPairs}
+use Rattle.set_answers.specs.Settled.{settled_faults}
+use Rattle.night_batches.specs.declared.night.Night.{Night}
+use Rattle.night_batches.specs.Night.{IsNight, acks_of}
 use Rattle.night_law.specs.Quotable.{IsGroupQuotable}
 use Rattle.night_law.specs.ReadBack.{AreReadBack, IsReadBack, IsResponseTo, SentSet}
 use Rattle.night_law.specs.ReadBack.{answered_sets_in, sets_in_group, sets_told_to}

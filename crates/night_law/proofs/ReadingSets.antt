@@ -20,8 +20,8 @@ use Rattle.set_check.specs.MeetsLaw.{IsWellGuided}
 use Rattle.set_check.specs.SetParts.{SetParts, set_parts}
 use Rattle.ack_999.specs.ReadBack.{IsQuotable, IsQuotableFault}
 use Rattle.ack_999.specs.Report.{shows_sets}
-use Rattle.checked_text.specs.declared.answered.AnsweredGroup.{AnsweredGroup}
-use Rattle.checked_text.specs.Answers.{IsGroupAnswer, IsSetAnswer, SentValue, has_number_among}
+use Rattle.set_answers.specs.declared.answered.AnsweredGroup.{AnsweredGroup}
+use Rattle.set_answers.specs.Answers.{IsGroupAnswer, IsSetAnswer, SentValue, has_number_among}
 use Rattle.night_law.proofs.Accepted.{accepted_as_it_meets}
 use Rattle.night_law.specs.Quotable.{IsGroupQuotable, IsGuideQuotable}
 use Rattle.night_law.specs.ReadBack.{IsResponseTo, sets_with_earlier, sets_in_group}

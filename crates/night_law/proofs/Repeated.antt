@@ -8,7 +8,7 @@ use Rattle.hub_kinds.specs.Words.{note_text}
 use Rattle.hub_kinds.specs.declared.interchange.InterchangeFault.{InterchangeFault}
 use Rattle.hub_kinds.specs.declared.interchange.InterchangeFault.TheVariants as fault
 use Rattle.env_index.specs.Words.{InterchangeEntry}
-use Rattle.judged_text.specs.Answered.{is_answered, is_repeatable, asks_for_ta1, ta1_note}
+use Rattle.answered_sets.specs.Answered.{is_answered, is_repeatable, asks_for_ta1, ta1_note}
 
 pub record IsRepeated (x : InterchangeEntry) (note : List ℕ) : Type 0 where
   pub control : is_digits (field_of x.header 13) ≡ true

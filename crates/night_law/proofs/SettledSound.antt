@@ -7,10 +7,10 @@ use Rattle.std.proofs.lemmas.List.Elements.{All-cons, All-head, All-nil, All-tai
 use Rattle.hub_kinds.specs.declared.interchange.InterchangeFault.{InterchangeFault}
 use Rattle.env_index.specs.Words.{fault_of, IndexEntry, IndexValue, IsEntryOf, IsIndex, settled, with_faults}
 use Rattle.partner_setup.specs.Setup.{SetupValue, sender_of}
-use Rattle.checked_text.specs.Seen.{is_among}
-use Rattle.checked_text.specs.Settled.{fault_alone, fault_behind, fault_if_earlier, fault_with_sender, faults_from, kept_keys}
-use Rattle.checked_text.specs.Settled.{interchange_key_of}
-use Rattle.checked_text.specs.Settled.{settled_faults}
+use Rattle.set_answers.specs.Seen.{is_among}
+use Rattle.set_answers.specs.Settled.{fault_alone, fault_behind, fault_if_earlier, fault_with_sender, faults_from, kept_keys}
+use Rattle.set_answers.specs.Settled.{interchange_key_of}
+use Rattle.set_answers.specs.Settled.{settled_faults}
 
 abbrev pub IsSettledSound : IndexEntry → Type 0
 IsSettledSound e = e.fault ≡ None → fault_of e.interchange ≡ None

@@ -14,7 +14,7 @@ use Rattle.x12_segs.specs.declared.set_span.SetSpan.{SetSpan}
 use Rattle.env_index.specs.declared.entry.SetEnvelope.{SetEnvelope}
 use Rattle.env_index.specs.Words.{Set, option_items, set_items, span_of, set_entry}
 use Rattle.mailbox.specs.Deliveries.{inner_in}
-use Rattle.judged_text.specs.Judged.{PlacedValue, delims_in}
+use Rattle.answered_sets.specs.Judged.{PlacedValue, delims_in}
 use Rattle.night_law.proofs.Bodies.{Lacks}
 use Rattle.night_law.proofs.Sources.{IsThere}
 use Rattle.night_law.proofs.Splitting.{parts_lack}

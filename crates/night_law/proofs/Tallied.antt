@@ -17,14 +17,14 @@ use Rattle.count_numbers.specs.declared.entry.Entry.TheVariants.{Delivered}
 use Rattle.count_numbers.specs.declared.entry.PartnerEntry.{PartnerEntry}
 use Rattle.count_numbers.specs.declared.numbering.PartnerNumbers.{PartnerNumbers}
 use Rattle.count_numbers.proofs.ForAbove.{numbers_counted}
-use Rattle.judged_text.specs.Judged.{PlacedValue}
+use Rattle.answered_sets.specs.Judged.{PlacedValue}
 use Rattle.mailbox.specs.Mailbox.{group_total}
 use Rattle.mailbox.specs.Numbered.{group_key_of}
 use Rattle.mailbox.proofs.ForAbove.{groups_are_counted}
 use Rattle.partner_setup.specs.declared.partner.Partner.{Partner}
-use Rattle.checked_text.specs.Acknowledgments.{has_reports}
-use Rattle.checked_text.specs.CheckedText.{CheckedInterchange, acknowledged_to, acknowledgment_of, groups_to}
-use Rattle.night_writing.specs.Night.{counters_by, sets_to}
+use Rattle.set_answers.specs.Acknowledgments.{has_reports}
+use Rattle.set_answers.specs.CheckedText.{CheckedInterchange, acknowledged_to, acknowledgment_of, groups_to}
+use Rattle.night_batches.specs.Night.{counters_by, sets_to}
 use Rattle.night_law.specs.Tallied.{AreCountersTallied, AreNumbersTallied, entry_of, night_numbers}
 
 abbrev deliveries : List PlacedValue → List Entry

@@ -9,7 +9,7 @@ use Rattle.std.proofs.lemmas.List.Folds.{flat_map-map}
 use Rattle.x12_bytes.specs.declared.delims.Delims.{Delims}
 use Rattle.x12_segs.specs.Words.{SegValue, element_of}
 use Rattle.x12_write.specs.Group.{texts_in_row}
-use Rattle.x12_write.specs.Number.{padded_number}
+use Rattle.x12_write.specs.Number.{set_number}
 use Rattle.x12_write.specs.Segment.{WrittenSegment, segment_text}
 use Rattle.hub_kinds.specs.Words.{number_of}
 use Rattle.hub_kinds.specs.declared.answers.GroupAnswer.{GroupAnswer}
@@ -27,10 +27,10 @@ use Rattle.ack_999.specs.declared.support.GroupSupport.{GroupSupport}
 use Rattle.ack_999.specs.declared.support.GroupSupport.TheVariants as support
 use Rattle.ack_999.specs.declared.trailer.GroupTrailer.{GroupTrailer}
 use Rattle.ack_999.proofs.ForAbove.{text_999-parts}
-use Rattle.checked_text.specs.declared.answered.AnsweredGroup.{AnsweredGroup}
-use Rattle.checked_text.specs.Answers.{AreSetAnswers, IsGroupAnswer, IsSetAnswer, SentValue, answer_by, codes_where, has_number_among}
-use Rattle.checked_text.specs.Answers.{support_of, trailer_of}
-use Rattle.checked_text.specs.Pairs.{AreAllPairs}
+use Rattle.set_answers.specs.declared.answered.AnsweredGroup.{AnsweredGroup}
+use Rattle.set_answers.specs.Answers.{AreSetAnswers, IsGroupAnswer, IsSetAnswer, SentValue, answer_by, codes_where, has_number_among}
+use Rattle.set_answers.specs.Answers.{support_of, trailer_of}
+use Rattle.set_answers.specs.Pairs.{AreAllPairs}
 use Rattle.night_law.specs.Meets.{Meets}
 use Rattle.night_law.specs.Told.{IsGroupTold, IsSetTold, is_served}
 use Rattle.night_law.proofs.Headers.{HasHeader, at_index}
@@ -138,7 +138,7 @@ group_told d sent n before group answered headers is =
     let shown : sets_text d g sets ≡ texts_in_row (loops_if (is_served sent group) d sets) =
     ap (λ (b : Bool). if b then flat_map (set_text d) sets else []) served ∙ loops_text (is_served sent group) d sets in
     let told : List ℕ = texts_in_row (loops_if (is_served sent group) d sets) in
-    let number : List ℕ = padded_number 4 n in
+    let number : List ℕ = set_number n in
     let gs : SegValue = group.header in
     record {
       answered = answered;

@@ -15,18 +15,18 @@ use Rattle.count_numbers.specs.Num.{num}
 use Rattle.partner_setup.specs.declared.partner.Partner.{Partner}
 use Rattle.partner_setup.specs.Envelopes.{envelope_to}
 use Rattle.partner_setup.specs.Setup.{SetupValue}
-use Rattle.judged_text.specs.Answered.{ta1_note}
-use Rattle.judged_text.specs.Judged.{is_fa}
-use Rattle.checked_text.specs.declared.answered.AnsweredGroup.{AnsweredGroup}
-use Rattle.checked_text.specs.Acknowledgments.{acknowledgment_text, acknowledgment_group_count, has_any, is_there, present, reports_from}
-use Rattle.checked_text.specs.Acknowledgments.{ta1_of}
-use Rattle.checked_text.specs.Answers.{AreGroupAnswers, IsGroupAnswered, SentValue}
-use Rattle.checked_text.specs.CheckedText.{CheckedInterchange, AreCheckedAs, AreAnswersBy, IsCheckedAs, acknowledged_to}
-use Rattle.checked_text.specs.CheckedText.{acknowledgment_of, acknowledgments_from, is_acknowledged_to, is_partner, sent_by}
-use Rattle.checked_text.specs.Pairs.{AreAllPairs}
-use Rattle.checked_text.specs.Settled.{settled_faults}
-use Rattle.night_writing.specs.declared.night.Night.{Night}
-use Rattle.night_writing.specs.Night.{IsNight, acks_of}
+use Rattle.answered_sets.specs.Answered.{ta1_note}
+use Rattle.answered_sets.specs.Judged.{is_fa}
+use Rattle.set_answers.specs.declared.answered.AnsweredGroup.{AnsweredGroup}
+use Rattle.set_answers.specs.Acknowledgments.{acknowledgment_text, acknowledgment_group_count, has_any, is_there, present, reports_from}
+use Rattle.set_answers.specs.Acknowledgments.{ta1_of}
+use Rattle.set_answers.specs.Answers.{AreGroupAnswers, IsGroupAnswered, SentValue}
+use Rattle.set_answers.specs.CheckedText.{CheckedInterchange, AreCheckedAs, AreAnswersBy, IsCheckedAs, acknowledged_to}
+use Rattle.set_answers.specs.CheckedText.{acknowledgment_of, acknowledgments_from, is_acknowledged_to, is_partner, sent_by}
+use Rattle.set_answers.specs.Pairs.{AreAllPairs}
+use Rattle.set_answers.specs.Settled.{settled_faults}
+use Rattle.night_batches.specs.declared.night.Night.{Night}
+use Rattle.night_batches.specs.Night.{IsNight, acks_of}
 use Rattle.night_law.specs.Told.{AreSetsTold, IsGroupTold, IsInterchangeTold, IsPartnerTold, ToldGroup, groups_behind, answered_group_count}
 use Rattle.night_law.specs.Told.{groups_told, has_responses, is_told_to, note_to, told_groups}
 use Rattle.night_law.proofs.Headers.{HasHeader, HaveHeaders, settled_headers}

@@ -24,7 +24,7 @@ use Rattle.set_check.specs.SetParts.{SetParts, set_parts}
 use Rattle.set_check.specs.Verdict.{tells_of_faults, tolerates, verdict_on}
 use Rattle.ack_999.specs.Faults.{fault_segments, note_segment, notes, notes_text}
 use Rattle.ack_999.specs.Report.{convention_text, set_response, set_text}
-use Rattle.checked_text.specs.Answers.{IsSetAnswer, SentValue}
+use Rattle.set_answers.specs.Answers.{IsSetAnswer, SentValue}
 use Rattle.night_law.specs.Meets.{IsToldAccepted, Meets}
 use Rattle.night_law.proofs.Accepted.{accepted_as_it_meets}
 use Rattle.night_law.specs.Told.{IsSetTold, SaysAccepted, accepted_closing, set_closing, set_opening}

@@ -3,7 +3,7 @@ use Rattle.std.proofs.Common.{◌≡◌, ℕ, suc, List, [], ◌∷◌, ◌++◌
 use Rattle.std.specs.Prelude.{slice_get}
 use Rattle.std.specs.List.{All}
 use Rattle.std.proofs.lemmas.List.Elements.{All-cons, All-nil}
-use Rattle.checked_text.specs.Pairs.{AreAllPairs}
+use Rattle.set_answers.specs.Pairs.{AreAllPairs}
 use Rattle.night_law.proofs.Pairs.{no_pairs, pairs_cons, pairs_tail}
 
 abbrev pub Together : {A B : Type 0} → (A → B → Type 0) → List A → List B → Type 0

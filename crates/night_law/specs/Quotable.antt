@@ -15,10 +15,10 @@ use Rattle.env_index.specs.Words.{GroupEntry, IndexEntry, IndexValue, IsIndex}
 use Rattle.partner_setup.specs.declared.partner.Partner.{Partner}
 use Rattle.partner_setup.specs.Setup.{SetupValue, guide_for_set}
 use Rattle.set_check.specs.Checked.{guide_tree_of}
-use Rattle.judged_text.specs.Judged.{responded_groups}
-use Rattle.checked_text.specs.Answers.{SentValue}
-use Rattle.checked_text.specs.CheckedText.{sent_by}
-use Rattle.checked_text.specs.Settled.{settled_entries}
+use Rattle.answered_sets.specs.Judged.{responded_groups}
+use Rattle.set_answers.specs.Answers.{SentValue}
+use Rattle.set_answers.specs.CheckedText.{sent_by}
+use Rattle.set_answers.specs.Settled.{settled_entries}
 use Rattle.night_law.specs.Told.{groups_told, is_told_to}
 
 -- neither the element separator nor the terminator is in the reference numbers of a row and of its components

@@ -6,11 +6,11 @@ use Rattle.env_index.specs.Words.{IndexEntry, IndexValue, IsIndex, GroupEntry}
 use Rattle.env_index.specs.declared.entry.SetEnvelope.{SetEnvelope}
 use Rattle.partner_setup.specs.declared.partner.Partner.{Partner}
 use Rattle.partner_setup.specs.Setup.{SetupValue}
-use Rattle.judged_text.specs.Judged.{responded_groups}
-use Rattle.checked_text.specs.Answers.{SentValue}
-use Rattle.checked_text.specs.CheckedText.{sent_by}
-use Rattle.checked_text.specs.Pairs.{AreAllPairs}
-use Rattle.checked_text.specs.Settled.{settled_entries}
+use Rattle.answered_sets.specs.Judged.{responded_groups}
+use Rattle.set_answers.specs.Answers.{SentValue}
+use Rattle.set_answers.specs.CheckedText.{sent_by}
+use Rattle.set_answers.specs.Pairs.{AreAllPairs}
+use Rattle.set_answers.specs.Settled.{settled_entries}
 use Rattle.night_law.specs.Meets.{Meets}
 use Rattle.night_law.specs.Quotable.{AreQuotable}
 use Rattle.night_law.specs.Responses.{Response, responses_in}

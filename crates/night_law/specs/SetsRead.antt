@@ -4,16 +4,16 @@ use Rattle.std.specs.Prelude.{Bool, if◌then◌else◌}
 use Rattle.std.specs.Str.{bytes_eq}
 use Rattle.x12_bytes.specs.declared.delims.Delims.{Delims}
 use Rattle.x12_segs.specs.Words.{components, elements_of, occurrences, part_or_empty, views}
-use Rattle.x12_write.specs.Number.{padded_number}
+use Rattle.x12_write.specs.Number.{set_number}
 use Rattle.count_numbers.specs.Num.{num}
 use Rattle.partner_setup.specs.declared.partner.Partner.{Partner}
 use Rattle.partner_setup.specs.Setup.{SetupValue}
 use Rattle.mailbox.specs.Deliveries.{inner_in}
-use Rattle.judged_text.specs.Judged.{PlacedValue, delims_in}
+use Rattle.answered_sets.specs.Judged.{PlacedValue, delims_in}
 use Rattle.mailbox.specs.Numbered.{NumberedValue, numbered_from}
-use Rattle.checked_text.specs.CheckedText.{CheckedInterchange}
-use Rattle.checked_text.specs.Pairs.{AreAllPairs}
-use Rattle.night_writing.specs.Night.{IsKnown, sets_to}
+use Rattle.set_answers.specs.CheckedText.{CheckedInterchange}
+use Rattle.set_answers.specs.Pairs.{AreAllPairs}
+use Rattle.night_batches.specs.Night.{IsKnown, sets_to}
 
 -- segments, each by its id and its elements
 abbrev pub Segments : Type 0
@@ -51,11 +51,11 @@ plainly text = (text ∷ []) ∷ []
 
 -- ST as its sender wrote it, with ST02 anew
 abbrev pub header_said : List Said → (n : ℕ) → List Said
-header_said header n = plainly (codes "ST") ∷ (take 1 (drop 1 header) ++ plainly (padded_number 4 n) ∷ drop 2 (drop 1 header))
+header_said header n = plainly (codes "ST") ∷ (take 1 (drop 1 header) ++ plainly (set_number n) ∷ drop 2 (drop 1 header))
 
 -- SE, anew
 abbrev pub trailer_said : (segments n : ℕ) → List Said
-trailer_said segments n = plainly (codes "SE") ∷ plainly (decimal segments) ∷ plainly (padded_number 4 n) ∷ []
+trailer_said segments n = plainly (codes "SE") ∷ plainly (decimal segments) ∷ plainly (set_number n) ∷ []
 
 -- what a set says as its sender wrote it, but for ST02 and SE, as set number n
 abbrev pub set_said : PlacedValue → (n : ℕ) → List (List Said)

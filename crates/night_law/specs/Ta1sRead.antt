@@ -8,8 +8,8 @@ use Rattle.hub_kinds.specs.Words.{acknowledgment_code}
 use Rattle.env_index.specs.Words.{IndexEntry, IndexValue, IsIndex}
 use Rattle.partner_setup.specs.declared.partner.Partner.{Partner}
 use Rattle.partner_setup.specs.Setup.{SetupValue}
-use Rattle.checked_text.specs.Pairs.{AreAllPairs}
-use Rattle.checked_text.specs.Settled.{settled_entries}
+use Rattle.set_answers.specs.Pairs.{AreAllPairs}
+use Rattle.set_answers.specs.Settled.{settled_entries}
 use Rattle.night_law.specs.Quotable.{AreQuotable}
 use Rattle.night_law.specs.Told.{is_from, note_to}
 

@@ -12,9 +12,9 @@ use Rattle.count_numbers.specs.declared.numbering.PartnerNumbers.{PartnerNumbers
 use Rattle.mailbox.specs.Numbered.{group_key_of}
 use Rattle.partner_setup.specs.declared.partner.Partner.{Partner}
 use Rattle.partner_setup.specs.Setup.{SetupValue}
-use Rattle.checked_text.specs.Acknowledgments.{has_reports}
-use Rattle.checked_text.specs.CheckedText.{CheckedInterchange, acknowledged_to, acknowledgment_of, groups_to}
-use Rattle.night_writing.specs.Night.{next_of, sets_to}
+use Rattle.set_answers.specs.Acknowledgments.{has_reports}
+use Rattle.set_answers.specs.CheckedText.{CheckedInterchange, acknowledged_to, acknowledgment_of, groups_to}
+use Rattle.night_batches.specs.Night.{next_of, sets_to}
 
 -- an acknowledgment, with a group where it has 999s
 abbrev pub entry_of : CheckedInterchange → Entry

@@ -7,7 +7,7 @@ use Rattle.x12_bytes.specs.declared.delims.Delims.{Delims}
 use Rattle.x12_segs.specs.Words.{SegValue, element_of}
 use Rattle.x12_write.specs.declared.envelope.Envelope.{Envelope}
 use Rattle.x12_write.specs.Group.{texts_in_row}
-use Rattle.x12_write.specs.Number.{padded_number}
+use Rattle.x12_write.specs.Number.{set_number}
 use Rattle.x12_write.specs.Segment.{segment_text}
 use Rattle.hub_kinds.specs.Words.{group_code_text, group_verdict_text, set_code_text, verdict_text}
 use Rattle.hub_kinds.specs.declared.answers.GroupAnswer.{GroupAnswer}
@@ -26,13 +26,13 @@ use Rattle.ack_999.specs.Interchange.{interchange_text}
 use Rattle.ack_999.specs.Ta1.{ta1_text}
 use Rattle.ack_999.specs.Report.{accepted_sets, convention_text, listed_sets, segment_count}
 use Rattle.ack_999.specs.declared.totals.Totals.{Totals}
-use Rattle.judged_text.specs.Answered.{ta1_note}
-use Rattle.judged_text.specs.Judged.{is_fa}
-use Rattle.checked_text.specs.declared.answered.AnsweredGroup.{AnsweredGroup}
-use Rattle.checked_text.specs.Answers.{IsGroupAnswer, IsSetAnswer, SentValue}
-use Rattle.checked_text.specs.CheckedText.{is_partner, sent_by}
-use Rattle.checked_text.specs.Pairs.{AreAllPairs}
-use Rattle.checked_text.specs.Settled.{settled_entries}
+use Rattle.answered_sets.specs.Answered.{ta1_note}
+use Rattle.answered_sets.specs.Judged.{is_fa}
+use Rattle.set_answers.specs.declared.answered.AnsweredGroup.{AnsweredGroup}
+use Rattle.set_answers.specs.Answers.{IsGroupAnswer, IsSetAnswer, SentValue}
+use Rattle.set_answers.specs.CheckedText.{is_partner, sent_by}
+use Rattle.set_answers.specs.Pairs.{AreAllPairs}
+use Rattle.set_answers.specs.Settled.{settled_entries}
 use Rattle.night_law.specs.Meets.{Meets}
 
 -- AK2 of a set with this ST: ST01, ST02, and ST03 where it is the name of a convention
@@ -64,7 +64,7 @@ pub record IsSetTold (d : Delims) (sent : SentValue) (gs : SegValue) (before : L
 -- ST and AK1 of the n-th 999, of a group with this GS: GS01, GS06 and GS08
 abbrev pub group_opening : Delims → (n : ℕ) → (gs : SegValue) → List ℕ
 group_opening d n gs =
-    segment_text d (codes "ST") (codes "999" ∷ padded_number 4 n ∷ codes "005010X231" ∷ [])
+    segment_text d (codes "ST") (codes "999" ∷ set_number n ∷ codes "005010X231" ∷ [])
     ++ segment_text d (codes "AK1") (element_of gs 1 ∷ element_of gs 6 ∷ element_of gs 8 ∷ [])
 
 -- AK9 with a group's verdict (AK901), the numbers of its sets that are listed, received and accepted (AK902 to AK904) and its codes (AK905
@@ -74,7 +74,7 @@ group_closing d n g t =
     segment_text d (codes "AK9")
     (group_verdict_text g.verdict ∷ decimal (listed_sets g.listed t) ∷ decimal (received_sets t) ∷ decimal (accepted_sets g.codes t)
     ∷ map group_code_text g.codes)
-    ++ segment_text d (codes "SE") (decimal (segment_count g t) ∷ padded_number 4 n ∷ [])
+    ++ segment_text d (codes "SE") (decimal (segment_count g t) ∷ set_number n ∷ [])
 
 -- the sender has a guide with GS01 and GS08 of the group
 abbrev pub is_served : SentValue → GroupEntry → Bool

@@ -2,8 +2,8 @@
 -- a moment, with what is reported and read of it. Each run promises this record, and so does the program.
 use Rattle.std.specs.Prelude.{ℕ, List}
 use Rattle.partner_setup.specs.Setup.{SetupValue}
-use Rattle.night_writing.specs.Night.{IsNight}
-use Rattle.night_writing.specs.declared.night.Night.{Night}
+use Rattle.night_batches.specs.Night.{IsNight}
+use Rattle.night_batches.specs.declared.night.Night.{Night}
 use Rattle.night_law.specs.ReadBack.{AreReadBack}
 use Rattle.night_law.specs.SetsRead.{AreBoxesRead}
 use Rattle.night_law.specs.Ta1sRead.{AreTa1sReadBack}

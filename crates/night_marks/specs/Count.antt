@@ -11,15 +11,15 @@ number_in name = unwrap_or (number_of 6 (take 6 name)) 0
 abbrev pub unarchived : List NightMark → List NightMark
 unarchived nights = filter (λ (night : NightMark). not night.is_archived) nights
 
--- those that stand for archived nights
+-- the entries of archived nights
 abbrev pub archived : List NightMark → List NightMark
 archived nights = filter (λ (night : NightMark). night.is_archived) nights
 
--- how many nights are archived: the first stands for them
+-- how many nights are archived: the first is their entry
 abbrev pub archived_count : List NightMark → ℕ
 archived_count [] = 0
 archived_count (night ∷ nights) = if night.is_archived then number_in night.name else 0
 
--- how many nights there are, those that are archived among them
+-- how many nights there are, archived nights included
 abbrev pub night_count : List NightMark → ℕ
 night_count nights = archived_count nights + length (unarchived nights)

@@ -42,7 +42,7 @@ pub fn unarchived<'a>(
     Ok(left)
 }
 
-/// Those of `nights` that stand for archived nights. The only error is out of memory.
+/// The entries of archived nights among `nights`. The only error is out of memory.
 pub fn archived<'a>(alloc: Global, nights: &[&'a NightMark]) -> Result<Vec<&'a NightMark>, NoMemory>
     ensures { IfOk result (λ found. map (λ n. n.now) found.items ≡ count.archived (map (λ n. n.now) nights.now)) }
 {
@@ -56,7 +56,7 @@ pub fn archived<'a>(alloc: Global, nights: &[&'a NightMark]) -> Result<Vec<&'a N
     Ok(found)
 }
 
-/// How many nights are archived, by the first of `nights`, which stands for them.
+/// How many nights are archived. The first of `nights` is their entry, if any are.
 pub fn archived_count(nights: &[&NightMark]) -> u64
     ensures { result ≡ count.archived_count (map (λ n. n.now) nights.now) }
 {
@@ -72,7 +72,7 @@ pub fn archived_count(nights: &[&NightMark]) -> u64
     }
 }
 
-/// How many nights there are, those that are archived among them. The only error is out of memory.
+/// How many nights there are, archived nights included. The only error is out of memory.
 pub fn night_count(alloc: Global, nights: &[&NightMark]) -> Result<u64, NoMemory>
     ensures { IfOk result (λ n. n ≡ count.night_count (map (λ n. n.now) nights.now)) }
 {

@@ -4,8 +4,8 @@
 //! - the order is the one of the definition: each night is followed by the first that names it as the one before it, or else by the
 //!   earliest that is left (`in_order`);
 //! - the nights that don't name the one before them are known exactly (`broken_links`);
-//! - the nights that aren't archived, and those that stand for archived ones, are known exactly (`unarchived`, `archived`), and how many
-//!   nights there are together (`night_count`).
+//! - the nights that aren't archived, and the entries of archived ones, are known exactly (`unarchived`, `archived`), and how many nights
+//!   there are, archived nights included (`night_count`).
 //!
 //! The cost of the order grows with the square of the number of nights, in comparisons of names.
 //!

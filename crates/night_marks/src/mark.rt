@@ -9,6 +9,6 @@ pub struct NightMark {
     pub moment: Text,
     /// The name of the night before it, as its file from/before says; empty if it was the first.
     pub before: Text,
-    /// Whether it stands for nights that are archived: its folder is that of the last of them.
+    /// Whether it is the entry of archived nights: its folder is then the folder of the last archived night.
     pub is_archived: bool,
 }

@@ -1,6 +1,7 @@
 -- A row of the table of a night (own): the fields that a page shows, beside those that a search shows.
 use Rattle.std.specs.Prelude.{ℕ, Bool, List, [], ◌∷◌, codes, if◌then◌else◌}
 use Rattle.std.specs.Str.{bytes_eq}
+use Rattle.csv_fields.specs.declared.columns.TheConstants as column
 use Rattle.night_search.specs.Lines.{document, joined, outcome, outcome_words, sender, st01}
 use Rattle.track_read.specs.Table.{field}
 
@@ -8,31 +9,31 @@ abbrev pub Row : Type 0
 Row = List (List ℕ)
 
 abbrev pub interchange : Row → List ℕ
-interchange row = field row 0
+interchange row = field row column.INTERCHANGE
 
 abbrev pub offset : Row → List ℕ
-offset row = field row 1
+offset row = field row column.OFFSET
 
 abbrev pub isa13 : Row → List ℕ
-isa13 row = field row 3
+isa13 row = field row column.ISA13
 
 abbrev pub fault : Row → List ℕ
-fault row = field row 4
+fault row = field row column.FAULT
 
 abbrev pub gs01 : Row → List ℕ
-gs01 row = field row 6
+gs01 row = field row column.GS01
 
 abbrev pub gs06 : Row → List ℕ
-gs06 row = field row 7
+gs06 row = field row column.GS06
 
 abbrev pub gs03 : Row → List ℕ
-gs03 row = field row 9
+gs03 row = field row column.GS03
 
 abbrev pub st02 : Row → List ℕ
-st02 row = field row 13
+st02 row = field row column.ST02
 
 abbrev pub byte : Row → List ℕ
-byte row = field row 19
+byte row = field row column.BYTE
 
 abbrev pub has_outcome : (words : List ℕ) → Row → Bool
 has_outcome words row = bytes_eq (outcome row) words

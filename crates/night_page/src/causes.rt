@@ -5,11 +5,12 @@ ghost use Rattle.night_page.specs.Causes as causes;
 ghost use Rattle.night_page.specs.Names.{texts_of};
 
 use crate::name::{Name, names_in_order};
-use crate::rows::{BYTE, FAULT, GS03, has_outcome, is_refused, words_of};
+use crate::rows::{has_outcome, is_refused, words_of};
 use csv::ByteRecord;
+use csv_fields::columns::{BYTE, FAULT, GS03, RECEIVER};
 use hub_kinds::{NoMemory, Text};
 use std::alloc::Global;
-use track_read::{RECEIVER, field};
+use track_read::field;
 
 fn is_unknown_sender(row: &ByteRecord) -> bool
     ensures { result ≡ causes.is_unknown_sender (fields_of row.now) }

@@ -3,11 +3,11 @@ ghost use Rattle.std.specs.List.{list_all};
 ghost use Rattle.csv.specs.Records.{fields_of};
 ghost use Rattle.night_page.specs.Totals as totals;
 
-use crate::rows::{GS06, OFFSET, ST02};
 use csv::ByteRecord;
+use csv_fields::columns::{GS06, OFFSET, RECEIVER, ST02};
 use hub_kinds::NoMemory;
 use std::alloc::Global;
-use track_read::{RECEIVER, field};
+use track_read::field;
 
 /// A route has no more receivers than this.
 const MOST_RECEIVERS: usize = 16;

@@ -12,9 +12,10 @@ use crate::rows::is_delivered;
 use crate::tags::{append_between, append_fixed, append_table_head, append_tagged};
 use crate::told::PartnerTold;
 use csv::ByteRecord;
+use csv_fields::columns::{RECEIVER, SENDER};
 use hub_kinds::{NoMemory, copy_text};
 use std::alloc::Global;
-use track_read::{RECEIVER, SENDER, field};
+use track_read::field;
 
 /// Who is named as the sender of some row.
 fn senders(alloc: Global, rows: &[ByteRecord]) -> Result<Vec<Name>, NoMemory>

@@ -5,29 +5,13 @@ ghost use Rattle.night_page.specs.Page as page;
 ghost use Rattle.night_page.specs.Rows as rows;
 
 use csv::ByteRecord;
+use csv_fields::columns::{
+    DOCUMENT, FAULT, GS01, GS06, INTERCHANGE, ISA13, OFFSET, OUTCOME, SENDER, ST01, ST02,
+};
 use hub_kinds::NoMemory;
 use night_search::{append_outcome, append_parts};
 use std::alloc::Global;
-use track_read::{DOCUMENT, OUTCOME, SENDER, ST01, field};
-
-/// The places of fields in a row, counted from 0, beside those that `track_read` names.
-pub(crate) const INTERCHANGE: usize = 0;
-
-pub(crate) const OFFSET: usize = 1;
-
-pub(crate) const ISA13: usize = 3;
-
-pub(crate) const FAULT: usize = 4;
-
-pub(crate) const GS01: usize = 6;
-
-pub(crate) const GS06: usize = 7;
-
-pub(crate) const GS03: usize = 9;
-
-pub(crate) const ST02: usize = 13;
-
-pub(crate) const BYTE: usize = 19;
+use track_read::field;
 
 pub(crate) fn has_outcome(row: &ByteRecord, words: &[u8]) -> bool
     ensures { result ≡ rows.has_outcome words.now (fields_of row.now) }

@@ -5,14 +5,13 @@ ghost use Rattle.night_page.specs.Page as page;
 ghost use Rattle.night_page.specs.Rows.{is_delivered, is_refused};
 ghost use Rattle.night_page.specs.Tags.{count_box};
 
-use crate::rows::{
-    GS06, ISA13, ST02, end_words, group_words, is_delivered, is_held, is_refused, is_rejected,
-};
+use crate::rows::{end_words, group_words, is_delivered, is_held, is_refused, is_rejected};
 use crate::tags::{append_count, append_fixed, append_table_head, append_table_row};
 use csv::ByteRecord;
+use csv_fields::columns::{DOCUMENT, ISA13, SENDER, ST01, ST02, VERDICT};
 use hub_kinds::NoMemory;
 use std::alloc::Global;
-use track_read::{DOCUMENT, SENDER, ST01, VERDICT, field};
+use track_read::field;
 
 /// Above so many rows those of deliveries are left out.
 const MOST_ROWS: usize = 5_000;

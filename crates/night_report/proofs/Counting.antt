@@ -8,9 +8,9 @@ use Rattle.std.proofs.lemmas.List.Sums.{sum_by-append}
 use Rattle.env_index.specs.Words.{GroupEntry}
 use Rattle.env_index.specs.declared.entry.SetEnvelope.{SetEnvelope}
 use Rattle.partner_setup.specs.Setup.{SetupValue}
-use Rattle.judged_text.specs.declared.standing.GroupStanding.{GroupStanding}
-use Rattle.judged_text.specs.Judged.{JudgedValue, PlacedValue, is_fa, is_refused, standing_at, sets_from, sets_of_groups_from, sets_of}
-use Rattle.judged_text.specs.Judged.{all_sets}
+use Rattle.answered_sets.specs.declared.standing.GroupStanding.{GroupStanding}
+use Rattle.answered_sets.specs.Judged.{JudgedValue, PlacedValue, is_fa, is_refused, standing_at, sets_from, sets_of_groups_from, sets_of}
+use Rattle.answered_sets.specs.Judged.{all_sets}
 use Rattle.night_report.specs.Adding.{added, none, together, group_totals, interchange_totals, held_in, accepted_one, refused_one}
 use Rattle.night_report.specs.Report.{ShownGroup, shown_from, groups_shown, counted_groups, is_counted}
 use Rattle.night_report.specs.Report.{set_count, accepted_count, held_count, report_totals}

@@ -7,7 +7,7 @@ use Rattle.std.proofs.lemmas.Grind.{flat_map-append}
 use Rattle.std.proofs.lemmas.List.Elements.{filter-append}
 use Rattle.std.proofs.lemmas.List.Sums.{sum_by-append}
 use Rattle.partner_setup.specs.Setup.{SetupValue}
-use Rattle.judged_text.specs.Judged.{JudgedValue, all_sets, is_refused, sets_of}
+use Rattle.answered_sets.specs.Judged.{JudgedValue, all_sets, is_refused, sets_of}
 use Rattle.night_report.specs.Adding.{together}
 use Rattle.night_report.specs.Report.{ShownGroup, accepted_count, all_lines, counted_groups, groups_shown, held_count}
 use Rattle.night_report.specs.Report.{interchange_lines, is_counted, report_totals, set_count}

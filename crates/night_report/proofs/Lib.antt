@@ -3,6 +3,7 @@ pub mod ForAbove
 mod Counting
 mod Ending
 mod Joined
+pub mod Outcomes
 mod Spacing
 mod Walking
 mod WorkedClean

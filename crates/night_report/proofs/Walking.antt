@@ -2,7 +2,7 @@
 use Rattle.std.proofs.Common.{ℕ, ◌≡◌, ◌<◌, ◌+◌, ◌++◌, List, length, drop, get_or, sym, ap, ◌∙◌, append_assoc}
 use Rattle.std.proofs.lemmas.List.{drop_more}
 use Rattle.partner_setup.specs.Setup.{SetupValue}
-use Rattle.judged_text.specs.Judged.{JudgedValue}
+use Rattle.answered_sets.specs.Judged.{JudgedValue}
 use Rattle.night_report.specs.Adding.{added, together}
 use Rattle.night_report.specs.Report.{interchange_lines, all_lines}
 use Rattle.night_report.specs.declared.totals.Totals.{Totals}

@@ -11,7 +11,7 @@ use Rattle.env_index.specs.declared.entry.SetEnvelope.{SetEnvelope}
 use Rattle.partner_setup.specs.declared.partner.Partner.{Partner}
 use Rattle.partner_setup.specs.declared.rows.Usage.TheVariants.{Production}
 use Rattle.partner_setup.specs.Setup.{SetupValue}
-use Rattle.judged_text.specs.Judged.{JudgedValue}
+use Rattle.answered_sets.specs.Judged.{JudgedValue}
 use Rattle.night_report.specs.Report.{report_text}
 
 abbrev stars : Delims

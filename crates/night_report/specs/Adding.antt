@@ -2,9 +2,9 @@
 use Rattle.std.specs.Prelude.{ℕ, ◌+◌, List, [], ◌∷◌, length, sum_by, if◌then◌else◌}
 use Rattle.env_index.specs.Words.{GroupEntry}
 use Rattle.partner_setup.specs.Setup.{SetupValue}
-use Rattle.judged_text.specs.Judged.{JudgedValue, is_fa, is_refused, standing_at}
-use Rattle.judged_text.specs.Placed.{group_at, groups_in}
-use Rattle.judged_text.specs.declared.standing.GroupStanding.{GroupStanding}
+use Rattle.answered_sets.specs.Judged.{JudgedValue, is_fa, is_refused, standing_at}
+use Rattle.answered_sets.specs.Placed.{group_at, groups_in}
+use Rattle.answered_sets.specs.declared.standing.GroupStanding.{GroupStanding}
 use Rattle.night_report.specs.Report.{ShownGroup, groups_shown, placed_sets_in, held_count}
 use Rattle.night_report.specs.declared.totals.Totals.{Totals}
 

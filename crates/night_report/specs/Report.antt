@@ -9,10 +9,10 @@ use Rattle.partner_setup.specs.declared.partner.Partner.{Partner}
 use Rattle.partner_setup.specs.Setup.{SetupValue}
 use Rattle.mailbox.specs.declared.outcome.Outcome.{Outcome}
 use Rattle.mailbox.specs.declared.outcome.Outcome.TheVariants.{DeliveredTo, HeldForDelimiter, HeldForRoute}
-use Rattle.judged_text.specs.declared.standing.GroupStanding.{GroupStanding}
+use Rattle.answered_sets.specs.declared.standing.GroupStanding.{GroupStanding}
 use Rattle.mailbox.specs.Deliveries.{outcomes, is_held}
-use Rattle.judged_text.specs.Answered.{ta1_note}
-use Rattle.judged_text.specs.Judged.{JudgedValue, PlacedValue, standing_at, is_fa, is_refused, sets_from, all_sets}
+use Rattle.answered_sets.specs.Answered.{ta1_note}
+use Rattle.answered_sets.specs.Judged.{JudgedValue, PlacedValue, standing_at, is_fa, is_refused, sets_from, all_sets}
 use Rattle.night_report.specs.Lines.{control_shown, interchange_line, sent_line, ta1_line, fa_line, answered_line, held_line}
 use Rattle.night_report.specs.Lines.{total_line}
 use Rattle.night_report.specs.declared.totals.Totals.{Totals}

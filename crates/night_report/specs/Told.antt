@@ -1,6 +1,6 @@
 -- A report that continues (own): the lines of the interchanges that were reported so far, and what is counted of them.
 use Rattle.std.specs.Prelude.{ℕ, ◌+◌, List, [], ◌++◌, length}
-use Rattle.judged_text.specs.Judged.{JudgedValue}
+use Rattle.answered_sets.specs.Judged.{JudgedValue}
 use Rattle.partner_setup.specs.Setup.{SetupValue}
 use Rattle.night_report.specs.Adding.{none, together}
 use Rattle.night_report.specs.Lines.{total_line}

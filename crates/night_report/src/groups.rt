@@ -1,8 +1,7 @@
 ghost use Rattle.std.specs.Prelude.{◌≡◌, ◌++◌, ◌+◌, ◌<◌, ◌≤◌, ℕ, IfOk, OnOk, length};
 ghost use Rattle.std.specs.List.{flat_map};
-ghost use Rattle.x12_segs.specs.Words.{element_of};
-ghost use Rattle.partner_setup.specs.Setup.{route_of};
-ghost use Rattle.judged_text.specs.Judged.{standing_at};
+ghost use Rattle.answered_sets.specs.Judged.{sets_of, standing_at};
+ghost use Rattle.mailbox.specs.Deliveries.{outcomes_of};
 ghost use Rattle.night_report.specs.Adding as adding;
 ghost use Rattle.night_report.specs.Report as report;
 ghost use Rattle.night_report.specs.Room.{HasRoom, IsOfInterchanges};
@@ -10,9 +9,10 @@ ghost use Rattle.night_report.specs.Room.{HasRoom, IsOfInterchanges};
 use crate::held::append_held_lines;
 use crate::lines::{append_answered_line, append_fa_line};
 use crate::totals::Totals;
+use answered_sets::{GroupStanding, JudgedInterchange, is_fa};
 use env_index::GroupEnvelope;
 use hub_kinds::{GroupVerdict, NoMemory};
-use judged_text::{GroupStanding, JudgedInterchange, PlacedSet, is_fa};
+use mailbox::SetOutcomes;
 use partner_setup::Setup;
 
 /// The verdict on group `n` of an interchange with these `standings` (999 guide, AK901); rejected if it has no such group.
@@ -68,27 +68,21 @@ fn append_group_line(
     )
 }
 
-/// Writes a line for each time that a set of group `n` is held, its route being this, and gives how often that is.
+/// Writes a line for each time that a set of a group is held by these outcomes of its sets, and gives how often that is.
 fn append_held_of_group(
     out: &mut Vec<u8>,
     setup: &Setup,
-    interchange: &JudgedInterchange<'_, '_>,
-    n: usize,
-    count: usize,
-    route: &[usize],
+    outcomes: &[SetOutcomes],
 ) -> Result<u128, NoMemory>
-    requires group { n < length interchange.now.interchange.content.groups }
-    requires sets { count ≡ length (adding.shown_at interchange.now n).group.sets }
-    requires route { route.now ≡ route_of setup.now (element_of (adding.shown_at interchange.now n).group.header 3) }
-    ensures text { OnOk result (out.new.items ≡ out.old.items
-        ++ flat_map (report.held_lines setup.now) (report.placed_sets_in (adding.shown_at interchange.now n))) }
-    ensures held { IfOk result (λ held. held ≡ adding.held_in setup.now (adding.shown_at interchange.now n)) }
+    ensures text { OnOk result ((g : report.ShownGroup) → outcomes.now ≡ outcomes_of setup.now (report.placed_sets_in g)
+        → out.new.items ≡ out.old.items ++ flat_map (report.held_lines setup.now) (report.placed_sets_in g)) }
+    ensures held { IfOk result (λ held. (g : report.ShownGroup) → outcomes.now ≡ outcomes_of setup.now (report.placed_sets_in g)
+        → held ≡ adding.held_in setup.now g) }
     ensures room { IfOk result (λ held. length out.old.items + held ≤ length out.new.items) }
 {
     let mut held = 0u128;
-    for i in 0..count {
-        let placed = PlacedSet::new(interchange, n, i);
-        held += append_held_lines(out, setup, &placed, route)?;
+    for i in 0..outcomes.len() {
+        held += append_held_lines(out, setup, i as u128 + 1, outcomes[i].as_slice())?;
     }
     Ok(held)
 }
@@ -124,14 +118,16 @@ fn group_totals(
     }
 }
 
-/// Writes the lines of group `n`, and gives what is counted of it.
+/// Writes the lines of group `n`, by the outcomes of its sets, and gives what is counted of it.
 fn append_group(
     out: &mut Vec<u8>,
     setup: &Setup,
     interchange: &JudgedInterchange<'_, '_>,
     n: usize,
+    outcomes: &[SetOutcomes],
 ) -> Result<Totals, NoMemory>
-    requires { n < length interchange.now.interchange.content.groups }
+    requires group { n < length interchange.now.interchange.content.groups }
+    requires outcomes { outcomes.now ≡ outcomes_of setup.now (report.placed_sets_in (adding.shown_at interchange.now n)) }
     ensures text { OnOk result (out.new.items
         ≡ out.old.items ++ report.group_lines setup.now (adding.shown_at interchange.now n)) }
     ensures totals { IfOk result (λ totals. totals ≡ adding.group_totals setup.now (adding.shown_at interchange.now n)) }
@@ -140,19 +136,21 @@ fn append_group(
 {
     let group = group_at(interchange, n);
     append_group_line(out, &group, interchange.standings(), n)?;
-    let route = setup.route_of(group.header().element(3));
-    let held = append_held_of_group(out, setup, interchange, n, group.set_count(), route)?;
+    let held = append_held_of_group(out, setup, outcomes)?;
     Ok(group_totals(&group, interchange.standings(), n, held))
 }
 
-/// Writes the lines of an interchange's groups, and gives what is counted with them after what was counted before.
+/// Writes the lines of an interchange's groups, by the outcomes of its sets, and gives what is counted with them after what was counted
+/// before.
 pub(crate) fn append_groups(
     out: &mut Vec<u8>,
     setup: &Setup,
     interchange: &JudgedInterchange<'_, '_>,
     before: Totals,
+    outcomes: &[SetOutcomes],
 ) -> Result<Totals, NoMemory>
-    requires { before ≡ adding.accepted_one }
+    requires before { before ≡ adding.accepted_one }
+    requires outcomes { outcomes.now ≡ outcomes_of setup.now (sets_of interchange.now) }
     ensures text { OnOk result (out.new.items ≡ out.old.items
         ++ flat_map (report.group_lines setup.now) (report.shown_from interchange.now 0 interchange.now.interchange.content.groups)) }
     ensures totals { IfOk result (λ totals. totals ≡ adding.added (adding.group_totals setup.now) before
@@ -161,8 +159,11 @@ pub(crate) fn append_groups(
     ensures of_one { IfOk result (λ totals. IsOfInterchanges totals 1) }
 {
     let mut totals = before;
+    let mut left = outcomes;
     for n in 0..interchange.interchange().group_count() {
-        totals = totals.with(&append_group(out, setup, interchange, n)?);
+        let (of_group, more) = left.split_at(group_at(interchange, n).set_count());
+        totals = totals.with(&append_group(out, setup, interchange, n, of_group)?);
+        left = more;
     }
     Ok(totals)
 }

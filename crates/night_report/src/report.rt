@@ -1,5 +1,7 @@
 ghost use Rattle.std.specs.Prelude.{◌≡◌, ◌≤◌, ◌<◌, ◌++◌, ◌+◌, ◌^◌, IfOk, OnOk, length};
-ghost use Rattle.judged_text.specs.Answered.{ta1_note};
+ghost use Rattle.answered_sets.specs.Answered.{ta1_note};
+ghost use Rattle.answered_sets.specs.Judged.{all_sets, sets_of};
+ghost use Rattle.mailbox.specs.Deliveries.{outcomes_of};
 ghost use Rattle.night_report.specs.Adding as adding;
 ghost use Rattle.night_report.specs.Report as report;
 ghost use Rattle.night_report.specs.Room.{HasRoom, IsOfInterchanges};
@@ -9,8 +11,9 @@ use crate::lines::{append_interchange_line, append_sent_line, append_ta1_line, c
 use crate::named::sender_name;
 use crate::told::ReportLines;
 use crate::totals::Totals;
+use answered_sets::{JudgedInterchange, is_refused, ta1_note};
 use hub_kinds::{NoMemory, Text};
-use judged_text::{JudgedInterchange, is_refused, ta1_note};
+use mailbox::{SetOutcomes, all_outcomes};
 use partner_setup::Setup;
 use std::alloc::Global;
 
@@ -51,12 +54,14 @@ fn append_answer(out: &mut Vec<u8>, interchange: &JudgedInterchange<'_, '_>) -> 
     }
 }
 
-/// Writes what is reported of an interchange after its line, and gives what is counted of it.
+/// Writes what is reported of an interchange after its line, by the outcomes of its sets, and gives what is counted of it.
 fn append_content(
     out: &mut Vec<u8>,
     setup: &Setup,
     interchange: &JudgedInterchange<'_, '_>,
+    outcomes: &[SetOutcomes],
 ) -> Result<Totals, NoMemory>
+    requires { outcomes.now ≡ outcomes_of setup.now (sets_of interchange.now) }
     ensures text { OnOk result (out.new.items ≡ out.old.items ++ report.content_lines setup.now interchange.now) }
     ensures totals { IfOk result (λ totals. totals ≡ adding.interchange_totals setup.now interchange.now) }
     ensures room { IfOk result (λ totals. HasRoom totals (length out.old.items) (length out.new.items)) }
@@ -66,17 +71,20 @@ fn append_content(
         return Ok(Totals::of_refused());
     }
     append_ta1_line(out, interchange.interchange().ta1s())?;
-    append_groups(out, setup, interchange, Totals::of_accepted())
+    append_groups(out, setup, interchange, Totals::of_accepted(), outcomes)
 }
 
-/// Writes the lines of interchange `n`, counted from 1, whose text begins at the offset `base`, and gives what is counted of it.
+/// Writes the lines of interchange `n`, counted from 1, whose text begins at the offset `base`, by the outcomes of its sets, and gives
+/// what is counted of it.
 fn append_interchange(
     out: &mut Vec<u8>,
     setup: &Setup,
     base: u64,
     n: u64,
     interchange: &JudgedInterchange<'_, '_>,
+    outcomes: &[SetOutcomes],
 ) -> Result<Totals, NoMemory>
+    requires { outcomes.now ≡ outcomes_of setup.now (sets_of interchange.now) }
     ensures text { OnOk result (out.new.items ≡ out.old.items ++ report.interchange_lines setup.now base n interchange.now) }
     ensures totals { IfOk result (λ totals. totals ≡ adding.interchange_totals setup.now interchange.now) }
     ensures room { IfOk result (λ totals. HasRoom totals (length out.old.items) (length out.new.items)) }
@@ -84,28 +92,47 @@ fn append_interchange(
 {
     append_first_line(out, setup, base, n, interchange)?;
     append_answer(out, interchange)?;
-    append_content(out, setup, interchange)
+    append_content(out, setup, interchange, outcomes)
 }
 
-/// Writes the lines of interchanges after this many others, and gives what is counted of them.
+/// How many sets an interchange has, which are `most` at the most.
+fn set_count(interchange: &JudgedInterchange<'_, '_>, most: usize) -> usize
+    requires { length (sets_of interchange.now) ≤ most }
+    ensures { result ≡ length (sets_of interchange.now) }
+{
+    let interchange = interchange.interchange();
+    let mut rest = most;
+    for n in 0..interchange.group_count() {
+        rest -= interchange.group(n).set_count();
+    }
+    most - rest
+}
+
+/// Writes the lines of interchanges after this many others, by the outcomes of all their sets, and gives what is counted of them.
 pub(crate) fn append_all(
     out: &mut Vec<u8>,
     setup: &Setup,
     base: u64,
     before: u64,
     interchanges: &[JudgedInterchange<'_, '_>],
+    outcomes: &[SetOutcomes],
 ) -> Result<Totals, NoMemory>
-    requires { before + length interchanges.now < 2 ^ 64 }
+    requires few { before + length interchanges.now < 2 ^ 64 }
+    requires outcomes { outcomes.now ≡ outcomes_of setup.now (all_sets interchanges.now) }
     ensures text { OnOk result (out.new.items ≡ out.old.items ++ report.all_lines setup.now base (before + 1) interchanges.now) }
     ensures totals { IfOk result (λ totals. totals ≡ report.report_totals setup.now interchanges.now) }
     ensures room { IfOk result (λ totals. HasRoom totals (length out.old.items) (length out.new.items)) }
     ensures of_those { IfOk result (λ totals. IsOfInterchanges totals (length interchanges.now)) }
 {
     let mut totals = Totals::none();
+    let mut left = outcomes;
     for i in 0..interchanges.len() {
         let n = before + (i as u64) + 1;
-        let of_this = append_interchange(out, setup, base, n, &interchanges[i])?;
-        totals = totals.with(&of_this);
+        let interchange = &interchanges[i];
+        let (of_this, more) = left.split_at(set_count(interchange, left.len()));
+        let counted = append_interchange(out, setup, base, n, interchange, of_this)?;
+        totals = totals.with(&counted);
+        left = more;
     }
     Ok(totals)
 }
@@ -120,6 +147,7 @@ pub fn report_text(
 ) -> Result<Text, NoMemory>
     ensures { IfOk result (λ text. text ≡ report.report_text setup.now interchanges.now outside) }
 {
-    let lines = ReportLines::new(alloc).append(setup, 0, interchanges)?;
+    let outcomes = all_outcomes(alloc, setup, interchanges)?;
+    let lines = ReportLines::new(alloc).append(setup, 0, interchanges, outcomes.as_slice())?;
     lines.close(outside)
 }

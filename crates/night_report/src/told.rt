@@ -1,8 +1,9 @@
 use crate::lines::append_total_line;
 use crate::report::append_all;
 use crate::totals::Totals;
+use answered_sets::JudgedInterchange;
 use hub_kinds::{Items, NoMemory, Text};
-use judged_text::JudgedInterchange;
+use mailbox::SetOutcomes;
 use partner_setup::Setup;
 use std::alloc::Global;
 use std::marker::Model;
@@ -30,6 +31,8 @@ impl Model for ReportLines {
 
 impl ReportLines {
     ghost use Rattle.std.specs.Prelude.{◌≡◌, ◌+◌, ◌<◌, ◌^◌, IfOk, length};
+    ghost use Rattle.answered_sets.specs.Judged.{all_sets};
+    ghost use Rattle.mailbox.specs.Deliveries.{outcomes_of};
     ghost use Rattle.night_report.specs.Told.{joined, nothing_told, told_alone, told_behind, told_text};
 
     /// The lines of an empty report.
@@ -43,19 +46,22 @@ impl ReportLines {
         }
     }
 
-    /// Reports these interchanges alone, those of a text that begins at the offset `base`; they are numbered on after `before` others.
+    /// Reports these interchanges alone, those of a text that begins at the offset `base`, by the outcomes of all their sets; they are
+    /// numbered on after `before` others.
     pub(crate) fn of(
         alloc: Global,
         setup: &Setup,
         base: u64,
         before: u64,
         interchanges: &[JudgedInterchange<'_, '_>],
+        outcomes: &[SetOutcomes],
     ) -> Result<ReportLines, NoMemory>
-        requires { before + length interchanges.now < 2 ^ 64 }
+        requires few { before + length interchanges.now < 2 ^ 64 }
+        requires outcomes { outcomes.now ≡ outcomes_of setup.now (all_sets interchanges.now) }
         ensures { IfOk result (λ lines. lines ≡ told_alone setup.now base before interchanges.now) }
     {
         let mut text = Vec::new(alloc);
-        let totals = append_all(&mut text, setup, base, before, interchanges)?;
+        let totals = append_all(&mut text, setup, base, before, interchanges, outcomes)?;
         let told = interchanges.len() as u64;
         Ok(ReportLines { text, totals, told })
     }
@@ -88,19 +94,22 @@ impl ReportLines {
         *told
     }
 
-    /// Reports more interchanges, those of a text that begins at the offset `base`. The only error is out of memory.
+    /// Reports more interchanges, those of a text that begins at the offset `base`, by the outcomes of all their sets. The only error is
+    /// out of memory.
     pub fn append(
         self,
         setup: &Setup,
         base: u64,
         interchanges: &[JudgedInterchange<'_, '_>],
+        outcomes: &[SetOutcomes],
     ) -> Result<ReportLines, NoMemory>
-        requires { self.count + length interchanges.now < 2 ^ 64 }
+        requires few { self.count + length interchanges.now < 2 ^ 64 }
+        requires outcomes { outcomes.now ≡ outcomes_of setup.now (all_sets interchanges.now) }
         ensures { IfOk result (λ lines. lines ≡ told_behind setup.now base self interchanges.now) }
     {
         let ReportLines { text, totals, told } = self;
         let mut text = text;
-        let more = append_all(&mut text, setup, base, told, interchanges)?;
+        let more = append_all(&mut text, setup, base, told, interchanges, outcomes)?;
         let totals = totals.with(&more);
         let told = told + interchanges.len() as u64;
         Ok(ReportLines { text, totals, told })

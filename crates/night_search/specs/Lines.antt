@@ -3,6 +3,7 @@
 use Rattle.std.specs.Prelude.{ℕ, List, [], ◌∷◌, ◌++◌, codes, map, if◌then◌else◌}
 use Rattle.std.specs.List.{flat_map}
 use Rattle.std.specs.Str.{bytes_eq}
+use Rattle.csv_fields.specs.declared.columns.TheConstants as column
 use Rattle.file_names.specs.Shown.{shown}
 use Rattle.track_read.specs.Table.{field}
 use Rattle.track_read.specs.declared.night.NightTable.{NightTable}
@@ -24,25 +25,25 @@ line_of words = shown words ++ codes "\n"
 
 -- the fields of a row that lines show
 abbrev pub sender : (row : List (List ℕ)) → List ℕ
-sender row = field row 2
+sender row = field row column.SENDER
 
 abbrev pub st01 : (row : List (List ℕ)) → List ℕ
-st01 row = field row 12
+st01 row = field row column.ST01
 
 abbrev pub document : (row : List (List ℕ)) → List ℕ
-document row = field row 14
+document row = field row column.DOCUMENT
 
 abbrev pub verdict : (row : List (List ℕ)) → List ℕ
-verdict row = field row 15
+verdict row = field row column.VERDICT
 
 abbrev pub outcome : (row : List (List ℕ)) → List ℕ
-outcome row = field row 18
+outcome row = field row column.OUTCOME
 
 abbrev pub receiver : (row : List (List ℕ)) → List ℕ
-receiver row = field row 21
+receiver row = field row column.RECEIVER
 
 abbrev pub receiver_isa13 : (row : List (List ℕ)) → List ℕ
-receiver_isa13 row = field row 22
+receiver_isa13 row = field row column.RECEIVER_ISA13
 
 -- a set that was delivered: to whom, in which interchange of which file
 abbrev pub delivered_words : (row : List (List ℕ)) → List ℕ

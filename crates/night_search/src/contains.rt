@@ -4,8 +4,9 @@ ghost use Rattle.csv.specs.Records.{fields_of};
 ghost use Rattle.night_search.specs.Search as search;
 
 use csv::ByteRecord;
+use csv_fields::columns::DOCUMENT;
 use memchr::memmem::find;
-use track_read::{DOCUMENT, field};
+use track_read::field;
 
 fn contains(document: &[u8], text: &[u8]) -> bool
     ensures { result ≡ is_some (first_of (matches document.now text.now 0)) }

@@ -4,9 +4,10 @@ ghost use Rattle.night_search.specs.Lines as lines;
 
 use crate::append::{append_line, append_parts};
 use csv::ByteRecord;
+use csv_fields::columns::{DOCUMENT, OUTCOME, RECEIVER, RECEIVER_ISA13, SENDER, ST01, VERDICT};
 use hub_kinds::NoMemory;
 use std::alloc::Global;
-use track_read::{DOCUMENT, OUTCOME, RECEIVER, RECEIVER_ISA13, SENDER, ST01, VERDICT, field};
+use track_read::field;
 
 fn append_delivered(out: &mut Vec<u8>, row: &ByteRecord) -> Result<(), NoMemory>
     ensures { OnOk result (out.new.items ≡ out.old.items ++ lines.delivered_words (fields_of row.now)) }

@@ -15,16 +15,16 @@ use Rattle.set_check.specs.Answer.{answer_to}
 use Rattle.set_check.specs.Checked.{Checked}
 use Rattle.set_check.specs.Codes.{control_of}
 use Rattle.ack_999.specs.Group.{are_same_number, group_codes_of, group_verdict_of, verdicts_of}
-use Rattle.batch_cut.specs.Moved.{moved_entry, moved_group, moved_set, moved_span, moved_view}
-use Rattle.batch_cut.proofs.ForAbove.{span_of_moved}
+use Rattle.whole_interchanges.specs.Moved.{moved_entry, moved_group, moved_set, moved_span, moved_view}
+use Rattle.whole_interchanges.proofs.ForAbove.{span_of_moved}
 use Rattle.night_stream.specs.MovedSets.{moved_checked, moved_judged}
 use Rattle.night_stream.proofs.Sets.{answer_moved, checked_moved}
-use Rattle.checked_text.specs.declared.answered.AnsweredGroup.{AnsweredGroup}
-use Rattle.checked_text.specs.Answers.{AreGroupAnswers, AreSetAnswers, IsGroupAnswered, IsSetAnswer, SentValue, answer_by, codes_where}
-use Rattle.checked_text.specs.Answers.{controls_of, group_number, has_number_among, listed_by, support_of, trailer_of}
-use Rattle.checked_text.specs.CheckedText.{AreAnswersBy, AreCheckedAs, CheckedInterchange, IsCheckedAs, judged, sent_by}
-use Rattle.checked_text.specs.Seen.{is_among}
-use Rattle.checked_text.proofs.ForAbove.{at_index}
+use Rattle.set_answers.specs.declared.answered.AnsweredGroup.{AnsweredGroup}
+use Rattle.set_answers.specs.Answers.{AreGroupAnswers, AreSetAnswers, IsGroupAnswered, IsSetAnswer, SentValue, answer_by, codes_where}
+use Rattle.set_answers.specs.Answers.{controls_of, group_number, has_number_among, listed_by, support_of, trailer_of}
+use Rattle.set_answers.specs.CheckedText.{AreAnswersBy, AreCheckedAs, CheckedInterchange, IsCheckedAs, judged, sent_by}
+use Rattle.set_answers.specs.Seen.{is_among}
+use Rattle.set_answers.proofs.ForAbove.{at_index}
 use Rattle.night_stream.specs.MovedAnswers.{moved_answered}
 use Rattle.night_stream.proofs.Pairs.{pairs_first_mapped, pairs_mapped, take_mapped}
 

@@ -8,12 +8,12 @@ use Rattle.hub_kinds.specs.declared.limits.TheConstants.{LONGEST_TEXT}
 use Rattle.env_index.specs.Words.{Extent, IndexEntry, IndexValue, IsIndex, settled, with_faults}
 use Rattle.env_index.specs.Extents.{count_outside, is_filler}
 use Rattle.env_index.specs.Index.{extent_of, extents_of}
-use Rattle.batch_cut.specs.Batches.{ChainUpTo}
-use Rattle.batch_cut.specs.Moved.{IsIndexUpTo, count_up_to}
-use Rattle.batch_cut.proofs.ForAbove.{chain_up_to_end, end_behind}
+use Rattle.whole_interchanges.specs.Batches.{ChainUpTo}
+use Rattle.whole_interchanges.specs.Moved.{IsIndexUpTo, count_up_to}
+use Rattle.whole_interchanges.proofs.ForAbove.{chain_up_to_end, end_behind}
 use Rattle.partner_setup.specs.Setup.{SetupValue}
-use Rattle.checked_text.specs.Settled.{fault_alone, faults_with, interchange_key_of, keys_with}
-use Rattle.night_writing.specs.Writing.{HasRoomFor, WritingValue}
+use Rattle.set_answers.specs.Settled.{fault_alone, faults_with, interchange_key_of, keys_with}
+use Rattle.night_batches.specs.Writing.{HasRoomFor, WritingValue}
 use Rattle.night_stream.specs.Carried.{CanGoOn}
 
 chain_length : (text : List ℕ) (from to : ℕ) (xs : List Extent) → ChainUpTo text from to xs → from + length xs ≤ to

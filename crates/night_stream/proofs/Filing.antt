@@ -10,12 +10,12 @@ use Rattle.count_numbers.specs.Num.{num}
 use Rattle.partner_setup.specs.declared.partner.Partner.{Partner}
 use Rattle.partner_setup.specs.Envelopes.{envelope_to}
 use Rattle.partner_setup.specs.Setup.{SetupValue}
-use Rattle.judged_text.specs.Answered.{is_repeatable}
-use Rattle.batch_cut.specs.Moved.{moved_group}
-use Rattle.checked_text.specs.Acknowledgments.{Acknowledgment, acknowledgment_text, acknowledgment_group_count}
-use Rattle.checked_text.specs.CheckedText.{AreAcknowledgments, CheckedInterchange, SentValues, acknowledged_to, acknowledgment_of}
-use Rattle.checked_text.specs.CheckedText.{acknowledgments_from, acknowledgments_to, groups_to, is_acknowledged_to, is_partner}
-use Rattle.checked_text.specs.CheckedText.{recipient_by}
+use Rattle.answered_sets.specs.Answered.{is_repeatable}
+use Rattle.whole_interchanges.specs.Moved.{moved_group}
+use Rattle.set_answers.specs.Acknowledgments.{Acknowledgment, acknowledgment_text, acknowledgment_group_count}
+use Rattle.set_answers.specs.CheckedText.{AreAcknowledgments, CheckedInterchange, SentValues, acknowledged_to, acknowledgment_of}
+use Rattle.set_answers.specs.CheckedText.{acknowledgments_from, acknowledgments_to, groups_to, is_acknowledged_to, is_partner}
+use Rattle.set_answers.specs.CheckedText.{recipient_by}
 use Rattle.night_stream.specs.MovedAnswers.{moved_answered}
 
 -- the acknowledgment of an interchange with so many groups

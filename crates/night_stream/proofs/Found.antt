@@ -4,27 +4,27 @@ use Rattle.std.specs.List.{All, AllZip}
 use Rattle.hub_kinds.specs.declared.limits.TheConstants.{LONGEST_TEXT}
 use Rattle.env_index.specs.Words.{HasSpans, IndexEntry, IndexValue, with_faults}
 use Rattle.partner_setup.specs.Setup.{SetupValue}
-use Rattle.checked_text.proofs.ForAbove.{settled_spans}
-use Rattle.checked_text.specs.Asked.{IsFound, asked_of}
+use Rattle.set_answers.proofs.ForAbove.{settled_spans}
+use Rattle.set_answers.specs.Asked.{IsFound, asked_of}
 use Rattle.number_register.specs.SeenNumbers.{HaveSeen}
-use Rattle.checked_text.specs.Settled.{faults_with}
+use Rattle.set_answers.specs.Settled.{faults_with}
 use Rattle.number_register.specs.declared.seen.Seen.{Seen}
-use Rattle.night_findings.specs.FoundOut.{IsFoundBehind}
-use Rattle.night_findings.specs.declared.found.FoundBehind.{FoundBehind}
-use Rattle.night_writing.specs.Writing.{HasRoomFor, IsBatchWritten, WritingValue}
+use Rattle.set_findings.specs.FoundOut.{IsFoundAfter}
+use Rattle.set_findings.specs.declared.found.FoundAfter.{FoundAfter}
+use Rattle.night_batches.specs.Writing.{HasRoomFor, IsBatchWritten, WritingValue}
 use Rattle.night_stream.proofs.Bounds.{room_for}
 use Rattle.night_stream.specs.Carried.{CanGoOn}
 
 -- each set stands in its span
-pub found_spans : (batch : List ℕ) (setup : SetupValue) (seen : Seen) (numbers : List (List ℕ)) (found : FoundBehind)
-    → IsFoundBehind batch setup seen found → HaveSeen seen numbers
+pub found_spans : (batch : List ℕ) (setup : SetupValue) (seen : Seen) (numbers : List (List ℕ)) (found : FoundAfter)
+    → IsFoundAfter batch setup seen found → HaveSeen seen numbers
     → All (λ (e : IndexEntry). HasSpans found.index.text e.interchange) found.index.entries
 found_spans batch setup seen numbers found is known =
     settled_spans batch is.plain found.index (faults_with setup numbers is.plain.entries) is.read (is.index numbers known)
 
 -- all that is asked is found
-pub found_asked : (batch : List ℕ) (setup : SetupValue) (seen : Seen) (numbers : List (List ℕ)) (found : FoundBehind)
-    → IsFoundBehind batch setup seen found → HaveSeen seen numbers
+pub found_asked : (batch : List ℕ) (setup : SetupValue) (seen : Seen) (numbers : List (List ℕ)) (found : FoundAfter)
+    → IsFoundAfter batch setup seen found → HaveSeen seen numbers
     → AllZip IsFound (asked_of found.index.text setup found.index.entries) found.findings.items
 found_asked batch setup seen numbers found is known =
     subst (λ (t : List ℕ). AllZip IsFound (asked_of t setup found.index.entries) found.findings.items)
@@ -32,8 +32,8 @@ found_asked batch setup seen numbers found is known =
 
 -- there is room for it
 pub found_room : (setup : SetupValue) (at : List ℕ) (base : ℕ) (w : WritingValue) (batch : List ℕ) (seen : Seen)
-    (numbers : List (List ℕ)) (found : FoundBehind) → CanGoOn setup at base w → base + length batch ≤ LONGEST_TEXT
-    → IsFoundBehind batch setup seen found → HaveSeen seen numbers
+    (numbers : List (List ℕ)) (found : FoundAfter) → CanGoOn setup at base w → base + length batch ≤ LONGEST_TEXT
+    → IsFoundAfter batch setup seen found → HaveSeen seen numbers
     → HasRoomFor setup at (length found.index.entries) found.index.outside w
 found_room setup at base w batch seen numbers found can few is known =
     room_for setup at base w batch is.plain found.index (faults_with setup numbers is.plain.entries) can few is.read
@@ -41,7 +41,7 @@ found_room setup at base w batch seen numbers found can few is known =
 
 -- what is written of it is that of its index, settled by the numbers seen so far
 pub found_written : (setup : SetupValue) (at : List ℕ) (base : ℕ) (old new : WritingValue) (batch : List ℕ) (seen : Seen)
-    (numbers : List (List ℕ)) (found : FoundBehind) (is : IsFoundBehind batch setup seen found) → HaveSeen seen numbers
+    (numbers : List (List ℕ)) (found : FoundAfter) (is : IsFoundAfter batch setup seen found) → HaveSeen seen numbers
     → IsBatchWritten found.index.text setup at base found.index.entries found.index.outside old new
     → IsBatchWritten batch setup at base (with_faults is.plain.entries (faults_with setup numbers is.plain.entries)) is.plain.outside
     old new

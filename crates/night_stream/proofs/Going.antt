@@ -9,18 +9,18 @@ use Rattle.hub_kinds.specs.declared.interchange.InterchangeFault.{InterchangeFau
 use Rattle.env_index.specs.Words.{Extent, HasSpans, IndexEntry, IsEntryOf, IsIndex, with_fault, with_faults}
 use Rattle.partner_setup.specs.Setup.{SetupValue}
 use Rattle.mailbox.specs.Deliveries.{delivered_to}
-use Rattle.judged_text.specs.Judged.{JudgedValue, PlacedValue, all_sets}
+use Rattle.answered_sets.specs.Judged.{JudgedValue, PlacedValue, all_sets}
 use Rattle.night_report.specs.Adding.{together}
 use Rattle.night_report.specs.Report.{all_lines, report_totals}
 use Rattle.night_report.specs.Told.{ToldValue}
 use Rattle.night_report.specs.declared.totals.Totals.{Totals}
-use Rattle.checked_text.specs.CheckedText.{AreAcknowledgments, AreCheckedAs, IsCheckedAs}
-use Rattle.checked_text.specs.CheckedText.{judged}
-use Rattle.checked_text.specs.Settled.{faults_from, faults_with, kept_keys, settled_faults}
-use Rattle.checked_text.proofs.ForAbove.{by_numbers}
-use Rattle.batch_cut.specs.Batches.{ChainUpTo}
-use Rattle.batch_cut.specs.Moved.{IsIndexUpTo, moved_entry}
-use Rattle.batch_cut.proofs.ForAbove.{ends, starts, steps}
+use Rattle.set_answers.specs.CheckedText.{AreAcknowledgments, AreCheckedAs, IsCheckedAs}
+use Rattle.set_answers.specs.CheckedText.{judged}
+use Rattle.set_answers.specs.Settled.{faults_from, faults_with, kept_keys, settled_faults}
+use Rattle.set_answers.proofs.ForAbove.{by_numbers}
+use Rattle.whole_interchanges.specs.Batches.{ChainUpTo}
+use Rattle.whole_interchanges.specs.Moved.{IsIndexUpTo, moved_entry}
+use Rattle.whole_interchanges.proofs.ForAbove.{ends, starts, steps}
 use Rattle.night_stream.specs.MovedSets.{moved_judged, moved_placed}
 use Rattle.mailbox.specs.Rendered.{RenderedValue, rendered_from}
 use Rattle.night_stream.proofs.Placed.{delivered_moved}
@@ -34,9 +34,9 @@ use Rattle.night_stream.proofs.Filing.{filed_moved}
 use Rattle.night_stream.proofs.Numbering.{faults_moved, settled_joined}
 use Rattle.night_stream.proofs.Pairs.{pairs_joined}
 use Rattle.night_stream.specs.UpTo as up
-use Rattle.night_writing.proofs.ForAbove.{rendered_length, nothing_is_written}
-use Rattle.night_writing.specs.Night.{judgements}
-use Rattle.night_writing.specs.Writing.{AreRendered}
+use Rattle.night_batches.proofs.ForAbove.{rendered_length, nothing_is_written}
+use Rattle.night_batches.specs.Night.{judgements}
+use Rattle.night_batches.specs.Writing.{AreRendered}
 use Rattle.night_stream.specs.UpTo.{IsBatchDone, IsNightUpTo, IsWhole, NightSoFar}
 use Rattle.night_stream.proofs.Written.{all_filtered, all_within, delivered_joined, rendered_joined, rendered_moved}
 
@@ -72,9 +72,9 @@ night_starts text setup at = record {
 }
 
 -- all of it
-pub night_ends : (text : List ℕ) (setup : SetupValue) (at : List ℕ) (n : NightSoFar) → IsNightUpTo text setup at (length text) n
+pub system_io : (text : List ℕ) (setup : SetupValue) (at : List ℕ) (n : NightSoFar) → IsNightUpTo text setup at (length text) n
     → IsWhole text setup at n
-night_ends text setup at n is = record {
+system_io text setup at n is = record {
   index = record { text = text; entries = n.entries; outside = n.writing.outside };
   read = ends text n.entries n.writing.outside is.index;
   counted = refl;

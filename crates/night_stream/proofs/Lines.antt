@@ -12,15 +12,15 @@ use Rattle.env_index.specs.declared.entry.SetEnvelope.{SetEnvelope}
 use Rattle.x12_bytes.specs.Header.{field_of}
 use Rattle.hub_kinds.specs.Words.{note_text}
 use Rattle.partner_setup.specs.Setup.{SetupValue}
-use Rattle.judged_text.specs.declared.standing.GroupStanding.{GroupStanding}
-use Rattle.judged_text.specs.Answered.{is_repeatable, ta1_note}
-use Rattle.judged_text.specs.Judged.{JudgedValue, PlacedValue, all_sets, sets_of_groups_from, is_fa, is_refused, sets_from, sets_of}
-use Rattle.judged_text.specs.Judged.{standing_at}
+use Rattle.answered_sets.specs.declared.standing.GroupStanding.{GroupStanding}
+use Rattle.answered_sets.specs.Answered.{is_repeatable, ta1_note}
+use Rattle.answered_sets.specs.Judged.{JudgedValue, PlacedValue, all_sets, sets_of_groups_from, is_fa, is_refused, sets_from, sets_of}
+use Rattle.answered_sets.specs.Judged.{standing_at}
 use Rattle.night_report.specs.Lines.{answered_line, control_shown, fa_line, interchange_line, ta1_line}
 use Rattle.night_report.specs.Report.{all_lines, answer_line, content_lines, first_line, group_line, group_lines, held_lines}
 use Rattle.night_report.specs.Report.{interchange_lines}
 use Rattle.night_report.specs.Report.{outcome_line, sender_name, shown_from}
-use Rattle.batch_cut.specs.Moved.{moved_group, moved_set}
+use Rattle.whole_interchanges.specs.Moved.{moved_group, moved_set}
 use Rattle.night_stream.specs.MovedSets.{moved_judged, moved_placed}
 use Rattle.night_stream.proofs.Placed.{outcomes_moved}
 use Rattle.night_stream.specs.Within.{IsWithinText}

@@ -5,11 +5,11 @@ use Rattle.std.specs.Prelude.{filter, is_none}
 use Rattle.hub_kinds.specs.declared.interchange.InterchangeFault.{InterchangeFault}
 use Rattle.env_index.specs.Words.{IndexEntry, with_fault, with_faults}
 use Rattle.partner_setup.specs.Setup.{SetupValue}
-use Rattle.batch_cut.specs.Moved.{moved_entry}
-use Rattle.checked_text.specs.Seen.{is_among}
-use Rattle.checked_text.specs.Settled.{fault_alone, fault_behind, fault_if_earlier, faults_from, faults_with, kept_keys, interchange_key_of}
-use Rattle.checked_text.specs.Settled.{keys_with, settled_faults}
-use Rattle.checked_text.proofs.ForAbove.{keys_joined}
+use Rattle.whole_interchanges.specs.Moved.{moved_entry}
+use Rattle.set_answers.specs.Seen.{is_among}
+use Rattle.set_answers.specs.Settled.{fault_alone, fault_behind, fault_if_earlier, faults_from, faults_with, kept_keys, interchange_key_of}
+use Rattle.set_answers.specs.Settled.{keys_with, settled_faults}
+use Rattle.set_answers.proofs.ForAbove.{keys_joined}
 
 module _ (setup : SetupValue) where
   abbrev kept : IndexEntry → Bool

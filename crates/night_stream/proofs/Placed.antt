@@ -14,14 +14,14 @@ use Rattle.partner_setup.specs.Setup.{SetupValue, route_of}
 use Rattle.partner_setup.specs.declared.partner.Partner.{Partner}
 use Rattle.mailbox.specs.declared.outcome.Outcome.{Outcome}
 use Rattle.mailbox.specs.declared.outcome.Outcome.TheVariants.{DeliveredTo, HeldForDelimiter}
-use Rattle.judged_text.specs.declared.standing.GroupStanding.{GroupStanding}
+use Rattle.answered_sets.specs.declared.standing.GroupStanding.{GroupStanding}
 use Rattle.mailbox.specs.Deliveries.{delivered_to, inner_count, inner_in, is_blocked, is_deliverable, is_delivered_to, is_delivery_to}
-use Rattle.mailbox.specs.Deliveries.{is_text_in_the_way, kept_parts, outcome_at, outcome_by, outcomes, outcomes_on}
-use Rattle.judged_text.specs.Judged.{JudgedValue, PlacedValue, all_sets, delims_in, sets_of_groups_from, segments_in, sets_from, sets_of}
-use Rattle.judged_text.specs.Judged.{standing_at}
+use Rattle.mailbox.specs.Deliveries.{has_collision, kept_parts, outcome_at, outcome_by, outcomes, outcomes_on}
+use Rattle.answered_sets.specs.Judged.{JudgedValue, PlacedValue, all_sets, delims_in, sets_of_groups_from, segments_in, sets_from, sets_of}
+use Rattle.answered_sets.specs.Judged.{standing_at}
 use Rattle.mailbox.specs.Mailbox.{inner_text, set_header_text, set_text, set_trailer_text}
-use Rattle.batch_cut.specs.Moved.{moved_group, moved_set, moved_view}
-use Rattle.batch_cut.proofs.ForAbove.{span_of_moved}
+use Rattle.whole_interchanges.specs.Moved.{moved_group, moved_set, moved_view}
+use Rattle.whole_interchanges.proofs.ForAbove.{span_of_moved}
 use Rattle.night_stream.specs.MovedSets.{moved_judged, moved_placed}
 use Rattle.night_stream.specs.Within.{IsWithinText}
 use Rattle.night_stream.proofs.Sets.{views_moved_in}
@@ -75,16 +75,16 @@ module _ (before behind : List ℕ) where
       ∙ ap (write (flat_map (inner_text (delims_in p) to) (inner_in p))) (length-map (inner_in p) (moved_view by))
 
   in_the_way_moved : (from to : Delims) (xs : List SegValue)
-      → list_any (λ (seg : SegValue). is_text_in_the_way from to seg.bytes) (map (moved_view by) xs)
-      ≡ list_any (λ (seg : SegValue). is_text_in_the_way from to seg.bytes) xs
+      → list_any (λ (seg : SegValue). has_collision from to seg.bytes) (map (moved_view by) xs)
+      ≡ list_any (λ (seg : SegValue). has_collision from to seg.bytes) xs
   in_the_way_moved from to [] = refl
-  in_the_way_moved from to (x ∷ xs) = ap (λ (b : Bool). is_text_in_the_way from to x.bytes || b) (in_the_way_moved from to xs)
+  in_the_way_moved from to (x ∷ xs) = ap (λ (b : Bool). has_collision from to x.bytes || b) (in_the_way_moved from to xs)
 
   blocked_moved : (to : Delims) (p : PlacedValue) → IsWithinText p → is_blocked to (moved p) ≡ is_blocked to p
   blocked_moved to p within =
-      ap (λ (xs : List SegValue). list_any (is_text_in_the_way (delims_in p) to) (kept_parts p.set.header)
-      || list_any (λ (seg : SegValue). is_text_in_the_way (delims_in p) to seg.bytes) xs) (inner_moved p within)
-      ∙ ap (λ (b : Bool). list_any (is_text_in_the_way (delims_in p) to) (kept_parts p.set.header) || b)
+      ap (λ (xs : List SegValue). list_any (has_collision (delims_in p) to) (kept_parts p.set.header)
+      || list_any (λ (seg : SegValue). has_collision (delims_in p) to seg.bytes) xs) (inner_moved p within)
+      ∙ ap (λ (b : Bool). list_any (has_collision (delims_in p) to) (kept_parts p.set.header) || b)
       (in_the_way_moved (delims_in p) to (inner_in p))
 
   outcome_moved : (setup : SetupValue) (p : PlacedValue) (to : ℕ) → IsWithinText p → outcome_at setup (moved p) to ≡ outcome_at setup p to

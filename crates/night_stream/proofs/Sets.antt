@@ -19,9 +19,17 @@ use Rattle.set_check.specs.Verdict.{verdict_on}
 use Rattle.set_check.specs.Checked.{Checked, IsChecked, guide_in, parts_in}
 use Rattle.set_check.specs.SetFaults.{AreSetFaults, IsErrorIn, IsFaultUnder, set_codes_where, codes_with}
 use Rattle.set_check.specs.SetParts.{SetParts, before_trailer, inner_of, parts_of, set_parts, set_trailer_of}
-use Rattle.batch_cut.specs.Moved.{moved_span, moved_view}
-use Rattle.batch_cut.proofs.ForAbove.{span_views_past}
-use Rattle.night_stream.specs.MovedSets.{moved_checked, moved_parts}
+use Rattle.whole_interchanges.specs.Moved.{moved_span, moved_view}
+use Rattle.whole_interchanges.proofs.ForAbove.{span_views_past}
+use Rattle.night_stream.specs.MovedSets.{moved_checked}
+
+abbrev pub moved_parts : (by : ℕ) → SetParts → SetParts
+moved_parts by p = record {
+  delims = p.delims;
+  header = moved_view by p.header;
+  body = p.body;
+  trailer = option_map (moved_view by) p.trailer;
+}
 
 -- what stands after the batch isn't looked at
 pub views_within : (text behind : List ℕ) (span : SetSpan) → span.end ≤ length text → span_views (text ++ behind) span

@@ -4,11 +4,11 @@ use Rattle.std.specs.List.{All}
 use Rattle.std.proofs.lemmas.List.Elements.{All-cons, All-head, All-nil, All-tail}
 use Rattle.env_index.specs.Words.{HasSpans, IndexEntry, IndexValue, IsIndex, with_faults}
 use Rattle.partner_setup.specs.Setup.{SetupValue}
-use Rattle.checked_text.specs.CheckedText.{AreCheckedAs, CheckedInterchange}
-use Rattle.checked_text.specs.Settled.{faults_with, kept_keys}
+use Rattle.set_answers.specs.CheckedText.{AreCheckedAs, CheckedInterchange}
+use Rattle.set_answers.specs.Settled.{faults_with, kept_keys}
 use Rattle.night_stream.proofs.Going.{HasTheSpans, spans_read, spans_settled}
 use Rattle.night_stream.specs.UpTo.{IsBatchDone, IsBatchOf, NightSoFar, behind_batch}
-use Rattle.night_writing.specs.Writing.{WritingValue}
+use Rattle.night_batches.specs.Writing.{WritingValue}
 
 abbrev HasItsSpans : List ℕ → CheckedInterchange → Type 0
 HasItsSpans text x = HasSpans text x.entry.interchange

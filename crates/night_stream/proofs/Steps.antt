@@ -9,22 +9,22 @@ use Rattle.env_index.specs.Words.{Extent, IndexValue, IsIndex, with_faults}
 use Rattle.env_index.specs.Index.{extents_of}
 use Rattle.env_index.proofs.ForAbove.{head_within}
 use Rattle.partner_setup.specs.Setup.{SetupValue}
-use Rattle.checked_text.specs.CheckedText.{judged}
+use Rattle.set_answers.specs.CheckedText.{judged}
 use Rattle.number_register.specs.SeenNumbers.{HaveSeen}
-use Rattle.checked_text.specs.Settled.{faults_with, kept_keys, settled_faults}
-use Rattle.batch_cut.specs.Batches.{ChainUpTo}
-use Rattle.batch_cut.proofs.ForAbove.{chain_up_to_end}
+use Rattle.set_answers.specs.Settled.{faults_with, kept_keys, settled_faults}
+use Rattle.whole_interchanges.specs.Batches.{ChainUpTo}
+use Rattle.whole_interchanges.proofs.ForAbove.{chain_up_to_end}
 use Rattle.night_stream.proofs.Closed.{closed}
 use Rattle.night_stream.proofs.Going.{night_starts, night_steps}
 use Rattle.night_stream.proofs.Numbering.{keys_behind}
 use Rattle.night_stream.proofs.Shown.{batch_shown}
-use Rattle.batch_cut.proofs.ForAbove.{stands_on}
-use Rattle.batch_cut.specs.Scouting.{Advances, Stands}
-use Rattle.batch_cut.specs.declared.scout.Advanced.{Advanced}
-use Rattle.batch_cut.specs.declared.scout.Inside.{Inside}
+use Rattle.whole_interchanges.proofs.ForAbove.{stands_on}
+use Rattle.whole_interchanges.specs.Scouting.{Advances, Stands}
+use Rattle.whole_interchanges.specs.declared.scout.Advanced.{Advanced}
+use Rattle.whole_interchanges.specs.declared.scout.Inside.{Inside}
 use Rattle.night_stream.specs.UpTo.{IsBatchOf, IsNightUpTo, NightSoFar, behind_batch, none_yet}
-use Rattle.night_writing.specs.Writing.{IsBatchWritten, IsClosedBy, WritingValue, nothing_written}
-use Rattle.night_writing.specs.declared.night.Night.{Night}
+use Rattle.night_batches.specs.Writing.{IsBatchWritten, IsClosedBy, WritingValue, nothing_written}
+use Rattle.night_batches.specs.declared.night.Night.{Night}
 use Rattle.stream_read.specs.Held.{HasRead, HeldValue}
 use Rattle.stream_read.proofs.ForAbove.{consumes_on}
 use Rattle.night_stream.proofs.Bounds.{faulty_length, few_up_to}

@@ -10,12 +10,12 @@ use Rattle.std.proofs.lemmas.List.Sums.{sum_by-append, sum_by-cons}
 use Rattle.partner_setup.specs.Setup.{SetupValue}
 use Rattle.env_index.specs.Words.{GroupEntry}
 use Rattle.mailbox.specs.Deliveries.{is_held}
-use Rattle.judged_text.specs.Judged.{JudgedValue, PlacedValue, all_sets, is_refused, sets_of, standing_at}
+use Rattle.answered_sets.specs.Judged.{JudgedValue, PlacedValue, all_sets, is_refused, sets_of, standing_at}
 use Rattle.night_report.specs.Adding.{together}
 use Rattle.night_report.specs.Report.{ShownGroup, accepted_count, counted_groups, groups_shown, held_count, is_counted, set_count}
 use Rattle.night_report.specs.Report.{shown_from, report_totals}
 use Rattle.night_report.specs.declared.totals.Totals.{Totals}
-use Rattle.batch_cut.specs.Moved.{moved_group, moved_set}
+use Rattle.whole_interchanges.specs.Moved.{moved_group, moved_set}
 use Rattle.night_stream.specs.MovedSets.{moved_judged, moved_placed}
 use Rattle.night_stream.proofs.Placed.{all_sets_moved, outcomes_moved}
 use Rattle.night_stream.specs.Within.{IsWithinText}

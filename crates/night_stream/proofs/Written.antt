@@ -11,11 +11,11 @@ use Rattle.env_index.specs.declared.entry.SetEnvelope.{SetEnvelope}
 use Rattle.env_index.specs.Words.{GroupEntry, HasSpans, span_of}
 use Rattle.partner_setup.specs.declared.partner.Partner.{Partner}
 use Rattle.partner_setup.specs.Setup.{SetupValue}
-use Rattle.judged_text.specs.declared.standing.GroupStanding.{GroupStanding}
+use Rattle.answered_sets.specs.declared.standing.GroupStanding.{GroupStanding}
 use Rattle.mailbox.specs.Deliveries.{delivered_to, is_delivered_to}
-use Rattle.judged_text.specs.Judged.{JudgedValue, PlacedValue, all_sets, sets_of_groups_from, sets_from, sets_of, standing_at}
+use Rattle.answered_sets.specs.Judged.{JudgedValue, PlacedValue, all_sets, sets_of_groups_from, sets_from, sets_of, standing_at}
 use Rattle.mailbox.specs.Numbered.{group_key_of}
-use Rattle.checked_text.specs.CheckedText.{CheckedInterchange, judged}
+use Rattle.set_answers.specs.CheckedText.{CheckedInterchange, judged}
 use Rattle.night_stream.specs.MovedSets.{moved_placed}
 use Rattle.mailbox.specs.Rendered.{RenderedValue, rendered, rendered_from}
 use Rattle.night_stream.proofs.Placed.{text_moved}

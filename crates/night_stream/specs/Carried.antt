@@ -2,10 +2,10 @@
 use Rattle.std.specs.Prelude.{◌≡◌, ℕ, ◌≤◌, List, ◌++◌, length}
 use Rattle.env_index.specs.Words.{IndexValue, IsIndex, with_faults}
 use Rattle.partner_setup.specs.Setup.{SetupValue}
-use Rattle.checked_text.specs.CheckedText.{AreAcknowledgments, CheckedInterchange}
+use Rattle.set_answers.specs.CheckedText.{AreAcknowledgments, CheckedInterchange}
 use Rattle.number_register.specs.SeenNumbers.{HaveSeen}
-use Rattle.checked_text.specs.Settled.{faults_with, kept_keys}
-use Rattle.night_writing.specs.Writing.{IsBatchWritten, WritingValue}
+use Rattle.set_answers.specs.Settled.{faults_with, kept_keys}
+use Rattle.night_batches.specs.Writing.{IsBatchWritten, WritingValue}
 use Rattle.night_stream.specs.declared.carried.Carried.{Carried}
 
 -- after this many bytes it can continue: no more interchanges and no more bytes outside than these

@@ -1,9 +1,8 @@
 -- X12.6, transaction set: a set of a batch, in the whole text.
-use Rattle.std.specs.Prelude.{ℕ, List, ◌++◌, length, option_map}
+use Rattle.std.specs.Prelude.{ℕ, List, ◌++◌, length}
 use Rattle.set_check.specs.Checked.{Checked}
-use Rattle.set_check.specs.SetParts.{SetParts}
-use Rattle.judged_text.specs.Judged.{JudgedValue, PlacedValue}
-use Rattle.batch_cut.specs.Moved.{moved_group, moved_interchange, moved_set, moved_span, moved_view}
+use Rattle.answered_sets.specs.Judged.{JudgedValue, PlacedValue}
+use Rattle.whole_interchanges.specs.Moved.{moved_group, moved_interchange, moved_set, moved_span}
 
 -- the same set where these bytes are before and after the batch
 abbrev pub moved_checked : (before behind : List ℕ) → Checked → Checked
@@ -13,14 +12,6 @@ moved_checked before behind c = record {
   guide = c.guide;
   faults = c.faults;
   codes = c.codes;
-}
-
-abbrev pub moved_parts : (by : ℕ) → SetParts → SetParts
-moved_parts by p = record {
-  delims = p.delims;
-  header = moved_view by p.header;
-  body = p.body;
-  trailer = option_map (moved_view by) p.trailer;
 }
 
 abbrev pub moved_judged : (before behind : List ℕ) → JudgedValue → JudgedValue

@@ -3,11 +3,11 @@ use Rattle.std.specs.Prelude.{◌≡◌, ℕ, ◌≤◌, List, ◌++◌, length,
 use Rattle.std.specs.Io.KnownBytes.{Consumes}
 use Rattle.hub_kinds.specs.declared.limits.TheConstants.{LONGEST_TEXT}
 use Rattle.partner_setup.specs.Setup.{SetupValue}
-use Rattle.night_writing.specs.Night.{IsNight}
-use Rattle.night_writing.specs.declared.night.Night.{Night}
+use Rattle.night_batches.specs.Night.{IsNight}
+use Rattle.night_batches.specs.declared.night.Night.{Night}
 use Rattle.number_register.specs.SeenNumbers.{HaveSeen}
-use Rattle.checked_text.specs.Settled.{kept_keys}
-use Rattle.batch_cut.specs.Scouting.{Stands}
+use Rattle.set_answers.specs.Settled.{kept_keys}
+use Rattle.whole_interchanges.specs.Scouting.{Stands}
 use Rattle.night_stream.specs.UpTo.{IsNightUpTo, NightSoFar}
 use Rattle.stream_read.specs.Held.{HeldValue}
 use Rattle.night_stream.specs.declared.stream.Reading.{Reading}

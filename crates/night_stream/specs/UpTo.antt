@@ -3,11 +3,11 @@ use Rattle.std.specs.Prelude.{◌≡◌, ℕ, List, [], ◌++◌, map}
 use Rattle.std.specs.List.{All}
 use Rattle.env_index.specs.Words.{HasSpans, IndexEntry, IndexValue, IsIndex, with_faults}
 use Rattle.partner_setup.specs.Setup.{SetupValue}
-use Rattle.checked_text.specs.CheckedText.{AreCheckedAs, CheckedInterchange}
-use Rattle.checked_text.specs.Settled.{faults_with, kept_keys, settled_entries}
-use Rattle.batch_cut.specs.Moved.{IsIndexUpTo, moved_entry}
+use Rattle.set_answers.specs.CheckedText.{AreCheckedAs, CheckedInterchange}
+use Rattle.set_answers.specs.Settled.{faults_with, kept_keys, settled_entries}
+use Rattle.whole_interchanges.specs.Moved.{IsIndexUpTo, moved_entry}
 use Rattle.night_stream.specs.MovedAnswers.{moved_answered}
-use Rattle.night_writing.specs.Writing.{IsBatchWritten, IsWrittenOf, WritingValue, nothing_written}
+use Rattle.night_batches.specs.Writing.{IsBatchWritten, IsWrittenOf, WritingValue, nothing_written}
 
 -- what is carried from batch to batch. The entries and the answers are named by contracts alone: of them the code keeps their number
 -- and the numbers of the interchanges that are kept

@@ -2,10 +2,10 @@ ghost use Rattle.std.specs.Prelude.{◌≡◌, ◌++◌, ℕ, List, length, map}
 ghost use Rattle.std.specs.List.{All};
 ghost use Rattle.env_index.specs.Words.{HasSpans, IndexEntry, with_faults};
 ghost use Rattle.partner_setup.specs.Setup.{SetupValue};
-ghost use Rattle.batch_cut.specs.Moved.{moved_entry};
+ghost use Rattle.whole_interchanges.specs.Moved.{moved_entry};
 ghost use Rattle.night_stream.specs.MovedSets.{moved_judged};
-ghost use Rattle.checked_text.specs.CheckedText.{AreAcknowledgments, AreCheckedAs, CheckedInterchange, SentValues, judged};
-ghost use Rattle.checked_text.specs.Settled.{faults_from, faults_with, kept_keys, settled_faults};
+ghost use Rattle.set_answers.specs.CheckedText.{AreAcknowledgments, AreCheckedAs, CheckedInterchange, SentValues, judged};
+ghost use Rattle.set_answers.specs.Settled.{faults_from, faults_with, kept_keys, settled_faults};
 ghost use Rattle.night_stream.specs.MovedAnswers.{moved_answered};
 
 /// A theorem, with nothing to run: the answers to a batch's interchanges are those to the same interchanges of the whole text.

@@ -1,7 +1,7 @@
 ghost use Rattle.std.specs.Prelude.{◌≡◌, ◌+◌, ◌≤◌, ℕ, List, [], IfErr, IfOk, length};
 ghost use Rattle.hub_kinds.specs.declared.limits.TheConstants.{LONGEST_TEXT};
 ghost use Rattle.number_register.specs.SeenNumbers.{HaveSeen};
-ghost use Rattle.night_writing.specs.Writing.{nothing_written};
+ghost use Rattle.night_batches.specs.Writing.{nothing_written};
 ghost use Rattle.night_stream.specs.Carried.{CanGoOn, HasWorked};
 ghost use Rattle.night_stream.specs.Crew.{IsReady};
 ghost use Rattle.night_stream.specs.Stopped.{IsOfPool};
@@ -13,10 +13,10 @@ use env_index::index_plain;
 use hub_kinds::NoMemory;
 use job_pool::ManyThreads;
 use moment::At;
-use night_findings::{FastGuides, FoundBehind, SettledFaults, find_out_behind, settle_behind};
-use night_writing::Writing;
+use night_batches::Writing;
 use number_register::Seen;
 use partner_setup::Setup;
+use set_findings::{FastGuides, FoundAfter, SettledFaults, find_out_after, settle_after};
 use std::alloc::Global;
 use std::sync::Wait;
 use std::thread::Threads;
@@ -46,7 +46,7 @@ pub(crate) fn nothing_carried(alloc: Global, setup: &Setup) -> Result<Carried, N
 }
 
 /// Works on fewer bytes than a header has, or none, as a window often leaves: no worker is asked for.
-fn add_little<'a>(
+fn add_without_workers<'a>(
     alloc: Global,
     setup: &'a Setup,
     at: &At,
@@ -61,7 +61,7 @@ fn add_little<'a>(
 {
     let Carried { numbers, writing } = carried;
     let mut index = index_plain(alloc, batch)?;
-    let settled = settle_behind(alloc, setup, numbers, &mut index)?;
+    let settled = settle_after(alloc, setup, numbers, &mut index)?;
     let SettledFaults { faults, numbers } = settled;
     index.settle(faults.as_slice());
     let writing = writing.add_batch(alloc, setup, at, base, &index)?;
@@ -89,7 +89,7 @@ fn add_shared<'g: 'a, 'a, G: Gate + Sync, R: Threads + Wait + Clock + Sync>(
 {
     let Carried { numbers, writing } = carried;
     let cuts = Cuts::every(alloc, batch.len(), crew.piece)?;
-    let found = find_out_behind(
+    let found = find_out_after(
         crew.rt,
         alloc,
         setup,
@@ -100,7 +100,7 @@ fn add_shared<'g: 'a, 'a, G: Gate + Sync, R: Threads + Wait + Clock + Sync>(
         crew.workers,
         crew.gate,
     )?;
-    let FoundBehind {
+    let FoundAfter {
         index,
         findings,
         numbers,
@@ -133,7 +133,7 @@ pub(crate) fn add_batch<'g: 'a, 'a, G: Gate + Sync, R: Threads + Wait + Clock + 
     ensures pool { IfErr result IsOfPool }
 {
     if batch.len() < HEADER_LEN {
-        let carried = add_little(alloc, setup, at, base, carried, batch)?;
+        let carried = add_without_workers(alloc, setup, at, base, carried, batch)?;
         return Ok(carried);
     }
     add_shared(crew, alloc, setup, guides, at, base, carried, batch)

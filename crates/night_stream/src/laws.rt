@@ -1,11 +1,11 @@
 ghost use Rattle.std.specs.Prelude.{◌+◌, ◌++◌, ℕ, List, length};
 ghost use Rattle.env_index.specs.Words.{Extent, IndexValue, IsIndex};
 ghost use Rattle.partner_setup.specs.Setup.{SetupValue};
-ghost use Rattle.night_writing.specs.declared.night.Night.{Night};
-ghost use Rattle.night_writing.specs.Night.{IsNight};
-ghost use Rattle.batch_cut.specs.Batches.{ChainUpTo};
+ghost use Rattle.night_batches.specs.declared.night.Night.{Night};
+ghost use Rattle.night_batches.specs.Night.{IsNight};
+ghost use Rattle.whole_interchanges.specs.Batches.{ChainUpTo};
 ghost use Rattle.night_stream.specs.UpTo.{IsBatchDone, IsBatchOf, IsNightUpTo, IsWhole, NightSoFar, behind_batch, none_yet};
-ghost use Rattle.night_writing.specs.Writing.{IsClosedBy, WritingValue};
+ghost use Rattle.night_batches.specs.Writing.{IsClosedBy, WritingValue};
 
 /// A theorem, with nothing to run: a night continues batch by batch, and after the last batch it is what is known of the whole text; a
 /// batch whose index is written, settled by the numbers seen so far, shows all that it has to show.

@@ -1,7 +1,7 @@
 ghost use Rattle.std.specs.Prelude.{◌≡◌, ◌+◌, ◌++◌, ℕ, List, length, map};
 ghost use Rattle.std.specs.List.{All};
 ghost use Rattle.partner_setup.specs.Setup.{SetupValue};
-ghost use Rattle.judged_text.specs.Judged.{JudgedValue, all_sets};
+ghost use Rattle.answered_sets.specs.Judged.{JudgedValue, all_sets};
 ghost use Rattle.mailbox.specs.Deliveries.{delivered_to};
 ghost use Rattle.night_report.specs.Report.{all_lines, report_totals};
 ghost use Rattle.night_report.specs.Adding.{together};

@@ -4,7 +4,7 @@ ghost use Rattle.x12_segs.specs.Words.{IsSetSpan};
 ghost use Rattle.set_check.specs.Checked.{Checked, IsChecked};
 ghost use Rattle.set_check.specs.Answer.{answer_to};
 ghost use Rattle.partner_setup.specs.Setup.{SetupValue};
-ghost use Rattle.judged_text.specs.Judged.{PlacedValue};
+ghost use Rattle.answered_sets.specs.Judged.{PlacedValue};
 ghost use Rattle.mailbox.specs.Deliveries.{outcomes};
 ghost use Rattle.mailbox.specs.Mailbox.{set_text};
 ghost use Rattle.night_stream.specs.MovedSets.{moved_checked, moved_placed};

@@ -12,18 +12,18 @@ ghost use Rattle.night_stream.specs.declared.stopped.Stopped.TheVariants.{Stream
 use crate::carried::{Carried, add_batch, nothing_carried};
 use crate::crew::Crew;
 use crate::stopped::Stopped;
-use batch_cut::{Advanced, Scout, advance, forget};
 use hub_kinds::NoMemory;
 use job_pool::ManyThreads;
 use moment::At;
-use night_findings::FastGuides;
-use night_writing::Night;
+use night_batches::Night;
 use partner_setup::Setup;
+use set_findings::FastGuides;
 use std::alloc::Global;
 use std::sync::Wait;
 use std::thread::Threads;
 use std::time::Clock;
 use stream_read::{Held, Source};
+use whole_interchanges::{Scout, advance_by, forget};
 use worker_pool::Gate;
 
 /// How far a stream is worked on.
@@ -98,7 +98,8 @@ fn go_on<G: Gate + Sync, R: Threads + Wait + Clock + Sync>(
         base,
         carried,
     } = reading;
-    let Advanced { scout: ahead, .. } = advance(held.bytes(), scout);
+    let advanced = advance_by(crew.rt, alloc, held.bytes(), scout, crew.workers)?;
+    let ahead = advanced.scout;
     let carried = add_batch(
         crew,
         alloc,

@@ -1,18 +1,18 @@
 ghost use Rattle.std.specs.Prelude.{◌≡◌, IfErr, IfOk, List, OnOk, false};
-ghost use Rattle.night_ends.specs.Outbox.{path_in};
+ghost use Rattle.system_io.specs.Outbox.{path_in};
 ghost use Rattle.night_folder.specs.Marks.{IsAbsent};
 ghost use Rattle.night_marks.specs.declared.mark.NightMark.{NightMark};
 ghost use Rattle.nights_intact.specs.Intact as intact;
 
 use crate::fault::IntactFault;
 use hub_kinds::{Items, NoMemory, Text, copy_text};
-use night_ends::{Presence, look_at};
 use night_folder::{PaperAt, first_line, read_paper};
 use night_marks::{NightMark, in_order};
 use record_review::review_records;
 use std::alloc::Global;
 use std::rt::Files;
 use std::str;
+use system_io::{Presence, look_at};
 
 /// The path of `name` in `folder`.
 fn path_in(alloc: Global, folder: &[u8], name: &[u8]) -> Result<Text, NoMemory>

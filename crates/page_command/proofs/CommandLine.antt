@@ -4,7 +4,7 @@ use Rattle.clap.specs.Words.{HasMatchesOf, Text, first_value, found_of, is_simpl
 use Rattle.clap.specs.declared.parser.matches.ArgMatches.{ArgMatches}
 use Rattle.clap.proofs.OnLiterals.{clap_on_literals}
 use Rattle.std.specs.declared.alloc.Global.{Global}
-use Rattle.night_ends.proofs.ForAbove.{found}
+use Rattle.system_io.proofs.ForAbove.{found}
 use Rattle.program_frame.specs.Matching.{AsksForText}
 use Rattle.page_command.specs.declared.command.Paths.{Paths}
 use Rattle.page_command.specs.CommandLine.{ArePaths, IsAsked, IsGiven, NamesNone, page_app, value_of}

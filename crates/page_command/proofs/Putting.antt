@@ -27,7 +27,7 @@ use Rattle.std.proofs.lemmas.List.{append-nil, map-append}
 use Rattle.guide_tree.specs.Words.{GuideTree}
 use Rattle.guide_samples.specs.Samples.{BreaksRule, IsSample}
 use Rattle.guide_samples.specs.declared.rule.Rule.{Rule}
-use Rattle.night_ends.specs.Outbox.{AddsFiles, File}
+use Rattle.system_io.specs.Outbox.{AddsFiles, File}
 use Rattle.page_command.specs.Folder.{AddsBroken, AddsSamples, file_of, files_of, index_text, row_of}
 use Rattle.page_command.proofs.Answering.{joined, none, single}
 

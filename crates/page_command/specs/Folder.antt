@@ -5,7 +5,7 @@ use Rattle.csv_fields.specs.Csv.{field_text, fields_text}
 use Rattle.guide_tree.specs.Words.{GuideTree}
 use Rattle.guide_samples.specs.Samples.{IsSample}
 use Rattle.guide_samples.specs.declared.rule.Rule.{Rule}
-use Rattle.night_ends.specs.Outbox.{AddsFiles, File}
+use Rattle.system_io.specs.Outbox.{AddsFiles, File}
 use Rattle.page_command.specs.Samples.{AreBreaking, Sample}
 use Rattle.sample_folder.specs.Names.{file_name}
 

@@ -4,10 +4,10 @@ ghost use Rattle.page_command.specs.Failure.{CantWrite, line_of, status_of};
 
 use file_names::append_shown;
 use hub_kinds::{Items, NoMemory, Text};
-use night_ends::print_text;
 use program_frame::Reported;
 use std::alloc::{AllocError, Global};
 use std::io::Write;
+use system_io::print_text;
 
 /// Why a run failed.
 #[derive(Debug, Drop)]

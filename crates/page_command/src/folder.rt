@@ -1,5 +1,5 @@
 ghost use Rattle.std.specs.Prelude.{◌≡◌, ◌<◌, ◌+◌, [], ◌∷◌, IfErr, IfOk, OnOk, length};
-ghost use Rattle.night_ends.specs.Outbox.{AddsFiles};
+ghost use Rattle.system_io.specs.Outbox.{AddsFiles};
 ghost use Rattle.guide_tree.specs.Words.{guide_of};
 ghost use Rattle.guide_samples.specs.Samples.{IsSample};
 ghost use Rattle.page_command.specs.Failure.{CantWrite};
@@ -10,9 +10,9 @@ use crate::index::{append_row, titles};
 use guide_samples::{Rules, smallest};
 use guide_tree::Guide;
 use hub_kinds::{NoMemory, Text, copy_text};
-use night_ends::Outbox;
 use sample_folder::{NotPut, file_name};
 use std::alloc::Global;
+use system_io::Outbox;
 
 /// Puts samples of `guide` into `folder`: `complete`, which meets it, as `complete.x12`; a smaller one as `smallest.x12`; a file for each
 /// rule that a text is known to break alone; and `index.csv`, which lists what the 999 says of each of these.

@@ -21,12 +21,12 @@ use guide_tree::Guide;
 use hub_kinds::{Items, NoMemory, Text};
 use names_file::{JudgedNames, warning_lines};
 use names_given::names_at;
-use night_ends::{Directory, print_text};
 use program_frame::print_out;
 use std::alloc::Global;
 use std::convert::AsStr;
 use std::io::Write;
 use std::rt::Files;
+use system_io::{Directory, print_text};
 
 /// A page, and the lines that warn of its names file.
 #[derive(Drop)]

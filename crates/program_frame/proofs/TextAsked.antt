@@ -3,7 +3,7 @@ use Rattle.std.proofs.Common.{◌≡◌, List, true}
 use Rattle.clap.specs.Words.{App, HasKind, Text, fault_of, kind_of, takes}
 use Rattle.clap.specs.declared.error.Error.{Error}
 use Rattle.clap.specs.declared.error.kind.ErrorKind.TheVariants.{OutOfMemory}
-use Rattle.night_ends.proofs.ForAbove.{asks_for_text}
+use Rattle.system_io.proofs.ForAbove.{asks_for_text}
 use Rattle.program_frame.specs.Matching.{IsMatched, IsTextBy}
 use Rattle.program_frame.specs.declared.matching.Matched.{Matched}
 use Rattle.program_frame.specs.declared.matching.Matched.TheVariants as matched

@@ -3,8 +3,8 @@ ghost use Rattle.clap.specs.Words.{app_of, rule_of};
 ghost use Rattle.program_frame.specs.Arguments as rule;
 
 use clap::{Arg, ArgAction, Command};
-use night_ends::RELEASE;
 use std::alloc::Global;
+use system_io::RELEASE;
 
 /// The program `name` without its arguments, which has a version: `--help` shows `about`, and `after` at its end.
 pub fn program<'a>(alloc: Global, name: &'a str, about: &'a str, after: &'a str) -> Command<'a>

@@ -2,9 +2,9 @@ ghost use Rattle.std.specs.Prelude.{◌≡◌, ◌⊎◌, ◌≢◌, ◌++◌, O
 ghost use Rattle.std.specs.Io.KnownBytes.{Appends};
 ghost use Rattle.program_frame.specs.Mistake.{memory_line};
 
-use night_ends::print_text;
 use std::io;
 use std::io::Write;
+use system_io::print_text;
 
 /// That a failure was reported: the status that the program ends with, and whether its lines are printed.
 #[derive(Debug, Drop)]

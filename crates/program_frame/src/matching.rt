@@ -6,9 +6,9 @@ ghost use Rattle.program_frame.specs.Mistake.{IsUsage};
 use crate::mistake::Mistake;
 use clap::error::ErrorKind;
 use clap::{ArgMatches, Command, Error};
-use night_ends::mistake_found;
 use std::alloc::Global;
 use std::convert::AsStr;
+use system_io::mistake_found;
 
 /// What a program's arguments are.
 #[derive(Debug, Drop)]

@@ -4,10 +4,10 @@ ghost use Rattle.program_frame.specs.Mistake.{IsUsage, mistake_line, mistake_sta
 
 use crate::ending::{Reported, print_named};
 use hub_kinds::{NoMemory, Text};
-use night_ends::print_text;
 use std::alloc::AllocError;
 use std::io;
 use std::io::Write;
+use system_io::print_text;
 
 /// Why a program's arguments ask for nothing.
 #[derive(Debug, Drop)]

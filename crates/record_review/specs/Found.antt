@@ -2,7 +2,7 @@
 use Rattle.std.specs.Prelude.{◌≡◌, ℕ, not, List, [], ◌∷◌, ◌++◌, Option, Some, None, codes, filter, map}
 use Rattle.std.specs.List.{AllZip}
 use Rattle.hub_kinds.specs.Words.{contains_text}
-use Rattle.night_ends.specs.Outbox.{path_in}
+use Rattle.system_io.specs.Outbox.{path_in}
 use Rattle.night_folder.specs.Files.{FileValue, FolderValue}
 use Rattle.night_folder.specs.Nights.{sum_or_none}
 use Rattle.night_record.specs.declared.record.SummedFile.{SummedFile}

@@ -1,7 +1,7 @@
 ghost use Rattle.std.specs.Prelude.{◌≡◌, ◌++◌, IfOk, OnOk};
 ghost use Rattle.std.specs.Str.{bytes_eq};
 ghost use Rattle.hub_kinds.specs.Words.{contains_text};
-ghost use Rattle.night_ends.specs.Outbox as outbox;
+ghost use Rattle.system_io.specs.Outbox as outbox;
 ghost use Rattle.record_review.specs.Found as found;
 
 use hub_kinds::{Items, NoMemory, Text, copy_text};

@@ -1,12 +1,12 @@
 ghost use Rattle.std.specs.Prelude.{◌≡◌, ◌<◌, [], ◌∷◌, IfErr, OnOk};
-ghost use Rattle.night_ends.specs.Outbox.{AddsFiles};
+ghost use Rattle.system_io.specs.Outbox.{AddsFiles};
 ghost use Rattle.sample_folder.specs.Names.{IsNotPut};
 
 use hub_kinds::{Lent, NoMemory, Text, copy_text};
-use night_ends::Outbox;
 use std::alloc::{AllocError, Global};
 use std::io;
 use std::io::ErrorKind;
+use system_io::Outbox;
 
 /// Why a file isn't in a folder.
 #[derive(Debug, Drop)]

@@ -7,7 +7,7 @@ use Rattle.guide_tree.proofs.rows.Dependency.TheSendSync as dependency
 use Rattle.guide_tree.proofs.rows.GuideHead.TheSendSync as head
 use Rattle.guide_tree.proofs.rows.HlRule.TheSendSync as hl
 use Rattle.guide_tree.proofs.slot.Slot.TheSendSync as slot
-use Rattle.hub_kinds.proofs.fault.Fault.TheSendSync as fault
+use Rattle.hub_kinds.proofs.faults.Faults.TheSendSync as faults
 use Rattle.hub_kinds.proofs.set_codes.SetCode.TheSendSync as code
 use Rattle.set_check.proofs.envelope.Envelope.TheSendSync as envelope
 use Rattle.set_check.specs.contracts.checked.CheckedSet as checked
@@ -23,7 +23,7 @@ checked_send κ =
       head.the_field_sync,
       hl.the_sync,
       slot.the_field_sync,
-      fault.the_send,
+      faults.the_send,
       code.the_send,
       envelope.the_field_send,
       vec.the_sync,

@@ -123,8 +123,8 @@ module _ (g : GuideTree) (d : Delims) (closed : Bool) (segs : List SegValue) (w 
   inner : inner_of closed segs ≡ is.body
   inner = ap (inner_of closed) is.segments ∙ inner_is closed w.ends.header is.body w.ends.trailer is.closed_is
 
-  faults_are : (f : Fault) → Contains w.faults.items f ↔ IsBodyFault g (inner_of closed segs) f
-  faults_are = subst (λ (l : List SegValue). (f : Fault) → Contains w.faults.items f ↔ IsBodyFault g l f) (sym inner) is.faults
+  faults_are : (f : Fault) → Contains w.faults f ↔ IsBodyFault g (inner_of closed segs) f
+  faults_are = subst (λ (l : List SegValue). (f : Fault) → Contains w.faults f ↔ IsBodyFault g l f) (sym inner) is.faults
 
   no_rule : (f : Fault) → IsRuleFault g d (map elements_of (inner_of closed segs)) (places_by g (inner_of closed segs))
       (end_position (parts_of d closed segs)) f → ⊥
@@ -135,8 +135,8 @@ module _ (g : GuideTree) (d : Delims) (closed : Bool) (segs : List SegValue) (w 
       none (inl x) = is.hierarchy f x
       none (inr x) = is.dependencies (end_position (parts_of d closed segs)) f x
 
-  pub walked_faults : AreSetFaults (Some g) (parts_of d closed segs) w.faults.items
-  walked_faults = body_members g d closed segs read w.faults.items faults_are no_rule
+  pub walked_faults : AreSetFaults (Some g) (parts_of d closed segs) w.faults
+  walked_faults = body_members g d closed segs read w.faults faults_are no_rule
 
 pub walked_ends : (g : GuideTree) (d : Delims) (closed : Bool) (segs : List SegValue) (w : WalkedSet) (v : Envelope)
     → IsWalkedSet g d closed segs w → v.header ≡ w.ends.header → v.segments ≡ w.ends.segments → v.trailer ≡ w.ends.trailer

@@ -10,7 +10,7 @@ use crate::elements::element_faults;
 use crate::rules::{rule_faults, with_others};
 use guide_fast::{FastGuide, place_all_fast};
 use guide_tree::Guide;
-use hub_kinds::{Fault, NoMemory, in_order};
+use hub_kinds::{Faults, NoMemory};
 use loop_match::{Placing, place_all};
 use std::alloc::Global;
 use x12_segs::{SegView, SetSpan};
@@ -38,13 +38,13 @@ pub(crate) fn body_faults<'a>(
     set: &SetSpan,
     segs: &[SegView<'a>],
     guide: &'a Guide,
-) -> Result<Vec<Fault<'a>>, NoMemory>
+) -> Result<Faults<'a>, NoMemory>
     requires some { 1 ≤ length segs.now }
     requires room { 1 ≤ before_trailer set.now.closed (length segs.now) }
     requires read { All (λ s. s.delims ≡ set.now.delims) segs.now }
     ensures exact { IfOk result (λ v.
-        AreSetFaults (Some (guide_of guide.now)) (parts_of set.now.delims set.now.closed segs.now) v.items) }
-    ensures rising { IfOk result (λ v. AreRising v.items) }
+        AreSetFaults (Some (guide_of guide.now)) (parts_of set.now.delims set.now.closed segs.now) v) }
+    ensures rising { IfOk result (λ v. AreRising v) }
 {
     let placing = place_all(alloc, inner_of(set.closed, segs), guide)?;
     placed_faults(alloc, set, segs, placing, guide)
@@ -56,13 +56,13 @@ pub(crate) fn body_faults_fast<'a, 'g: 'a>(
     set: &SetSpan,
     segs: &[SegView<'a>],
     fast: &FastGuide<'g>,
-) -> Result<Vec<Fault<'a>>, NoMemory>
+) -> Result<Faults<'a>, NoMemory>
     requires some { 1 ≤ length segs.now }
     requires room { 1 ≤ before_trailer set.now.closed (length segs.now) }
     requires read { All (λ s. s.delims ≡ set.now.delims) segs.now }
     ensures exact { IfOk result (λ v.
-        AreSetFaults (Some (guide_of fast.now)) (parts_of set.now.delims set.now.closed segs.now) v.items) }
-    ensures rising { IfOk result (λ v. AreRising v.items) }
+        AreSetFaults (Some (guide_of fast.now)) (parts_of set.now.delims set.now.closed segs.now) v) }
+    ensures rising { IfOk result (λ v. AreRising v) }
 {
     let placing = place_all_fast(alloc, inner_of(set.closed, segs), fast)?;
     placed_faults(alloc, set, segs, placing, fast.guide())
@@ -75,20 +75,19 @@ fn placed_faults<'a>(
     segs: &[SegView<'a>],
     placing: Placing<'a>,
     guide: &'a Guide,
-) -> Result<Vec<Fault<'a>>, NoMemory>
+) -> Result<Faults<'a>, NoMemory>
     requires some { 1 ≤ length segs.now }
     requires room { 1 ≤ before_trailer set.now.closed (length segs.now) }
     requires read { All (λ s. s.delims ≡ set.now.delims) segs.now }
     requires placed { IsPlacedBy guide.now (inner_of set.now.closed segs.now) placing }
     ensures exact { IfOk result (λ v.
-        AreSetFaults (Some (guide_of guide.now)) (parts_of set.now.delims set.now.closed segs.now) v.items) }
-    ensures rising { IfOk result (λ v. AreRising v.items) }
+        AreSetFaults (Some (guide_of guide.now)) (parts_of set.now.delims set.now.closed segs.now) v) }
+    ensures rising { IfOk result (λ v. AreRising v) }
 {
     let body = inner_of(set.closed, segs);
     let errors = element_faults(alloc, body, &placing, guide)?;
     let others = rule_faults(alloc, body, &placing, guide)?;
-    let mut faults = with_others(errors, others)?;
-    let mut structure = placing.into_faults().into_vec();
-    faults.append(&mut structure)?;
-    Ok(in_order(faults))
+    let mut faults = with_others(alloc, errors, others)?;
+    faults.append(placing.into_faults())?;
+    Ok(faults.in_order())
 }

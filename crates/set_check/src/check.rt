@@ -1,4 +1,4 @@
-ghost use Rattle.std.specs.Prelude.{◌≡◌, ◌≤◌, ◌↔◌, [], length, IfOk, IfSome};
+ghost use Rattle.std.specs.Prelude.{◌≡◌, ◌≤◌, ◌↔◌, [], None, length, IfOk, IfSome};
 ghost use Rattle.std.specs.List.{All};
 ghost use Rattle.std.specs.Option.{option_copied, option_map_or};
 ghost use Rattle.hub_kinds.specs.Words.{AreRising};
@@ -15,7 +15,7 @@ use crate::codes::set_codes;
 use crate::envelope::{Envelope, envelope_of};
 use crate::segments::segments_of;
 use guide_tree::Guide;
-use hub_kinds::{Fault, NoMemory};
+use hub_kinds::{Faults, NoMemory};
 use std::alloc::Global;
 use std::boxed::Box;
 use x12_segs::{SegView, SetSpan};
@@ -57,12 +57,12 @@ pub(crate) fn checked_by<'a>(
     set: SetSpan,
     guide: Option<&'a Guide>,
     envelope: Envelope<'a>,
-    faults: Vec<Fault<'a>>,
+    faults: Faults<'a>,
 ) -> Result<CheckedSet<'a>, NoMemory>
     requires span { IsSetSpan text.now set }
     requires envelope { IsEnvelopeOf (set_parts text.now set) envelope }
-    requires faults { AreSetFaults (guide_tree_of (option_copied guide)) (set_parts text.now set) faults.items }
-    requires rising { AreRising faults.items }
+    requires faults { AreSetFaults (guide_tree_of (option_copied guide)) (set_parts text.now set) faults }
+    requires rising { AreRising faults }
     ensures text { IfOk result (λ c. c.text ≡ text.entry.now) }
     ensures span { IfOk result (λ c. c.span ≡ set) }
     ensures guide { IfOk result (λ c. c.guide ≡ option_copied guide.entry) }
@@ -73,36 +73,34 @@ pub(crate) fn checked_by<'a>(
 {
     let codes = set_codes(
         alloc,
-        faults.as_slice(),
+        &faults,
         guide,
         &envelope.header,
         envelope.segments,
         envelope.trailer.as_ref(),
         false,
     )?;
-    let found = unless_clean(
-        alloc,
-        Found {
-            faults,
-            codes,
-            envelope,
-        },
-    )?;
+    let found = unless_clean(alloc, &faults, Found { codes, envelope })?;
     Ok(CheckedSet {
         text,
         span: set,
         guide,
+        faults,
         found,
     })
 }
 
-/// Keeps what was found of a set, unless nothing was.
-fn unless_clean<'a>(alloc: Global, found: Found<'a>) -> Result<Option<Box<Found<'a>>>, NoMemory>
-    ensures faults { IfOk result (λ kept. option_map_or (λ f. f.value.faults.items) kept [] ≡ found.entry.faults.items) }
+/// Keeps what was found of a set with these faults, unless nothing was.
+fn unless_clean<'a>(
+    alloc: Global,
+    faults: &Faults,
+    found: Found<'a>,
+) -> Result<Option<Box<Found<'a>>>, NoMemory>
+    ensures none { IfOk result (λ kept. kept ≡ None → faults.now ≡ []) }
     ensures codes { IfOk result (λ kept. option_map_or (λ f. f.value.codes.items) kept [] ≡ found.entry.codes.items) }
     ensures envelope { IfOk result (λ kept. IfSome kept (λ f. f.value.envelope ≡ found.entry.envelope)) }
 {
-    if is_without_fault(found.faults.as_slice(), found.codes.as_slice()) {
+    if is_without_fault(faults, found.codes.as_slice()) {
         return Ok(None);
     }
     Ok(Some(Box::new(alloc, found)?))
@@ -114,16 +112,16 @@ fn set_faults<'a>(
     set: &SetSpan,
     segs: &[SegView<'a>],
     guide: Option<&'a Guide>,
-) -> Result<Vec<Fault<'a>>, NoMemory>
+) -> Result<Faults<'a>, NoMemory>
     requires some { 1 ≤ length segs.now }
     requires room { 1 ≤ before_trailer set.now.closed (length segs.now) }
     requires read { All (λ s. s.delims ≡ set.now.delims) segs.now }
     ensures exact { IfOk result (λ v.
-        AreSetFaults (guide_tree_of (option_copied guide.entry)) (parts_of set.now.delims set.now.closed segs.now) v.items) }
-    ensures rising { IfOk result (λ v. AreRising v.items) }
+        AreSetFaults (guide_tree_of (option_copied guide.entry)) (parts_of set.now.delims set.now.closed segs.now) v) }
+    ensures rising { IfOk result (λ v. AreRising v) }
 {
     match guide {
-        None => Ok(Vec::new(alloc)),
+        None => Ok(Faults::new(alloc)),
         Some(guide) => body_faults(alloc, set, segs, guide),
     }
 }

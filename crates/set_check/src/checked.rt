@@ -4,15 +4,14 @@ ghost use Rattle.set_check.specs.Verdict.{is_without_fault};
 
 use crate::envelope::{Envelope, header_of};
 use guide_tree::Guide;
-use hub_kinds::{Fault, SetCode};
+use hub_kinds::{Faults, SetCode};
 use std::boxed::Box;
 use std::marker::Model;
 use x12_segs::SetSpan;
 
-/// What was found of a set that isn't clean: its faults and codes, and what its codes speak of beside its faults.
+/// What was found of a set that isn't clean beside its faults: its codes, and what they speak of.
 #[derive(Drop)]
 pub(crate) struct Found<'a> {
-    pub(crate) faults: Vec<Fault<'a>>,
     pub(crate) codes: Vec<SetCode>,
     pub(crate) envelope: Envelope<'a>,
 }
@@ -24,11 +23,12 @@ pub struct CheckedSet<'a> {
     pub(crate) text: &'a [u8],
     pub(crate) span: SetSpan,
     pub(crate) guide: Option<&'a Guide>,
+    pub(crate) faults: Faults<'a>,
     pub(crate) found: Option<Box<Found<'a>>>,
 }
 
 impl<'a> Model for CheckedSet<'a> {
-    ghost use Rattle.std.specs.Prelude.{[], IfSome};
+    ghost use Rattle.std.specs.Prelude.{◌≡◌, [], None, IfSome};
     ghost use Rattle.std.specs.Option.{option_copied, option_map_or};
     ghost use Rattle.set_check.specs.Checked.{Checked, IsChecked};
     ghost use Rattle.set_check.specs.Envelope.{IsEnvelopeOf};
@@ -45,7 +45,7 @@ impl<'a> Model for CheckedSet<'a> {
       text = c.text.now;
       span = c.span;
       guide = option_copied c.guide;
-      faults = option_map_or (λ f. f.value.faults.items) c.found [];
+      faults = c.faults;
       codes = option_map_or (λ f. f.value.codes.items) c.found [];
     } };
 
@@ -53,9 +53,10 @@ impl<'a> Model for CheckedSet<'a> {
       text = c.text.now;
       span = c.span;
       guide = option_copied c.guide;
-      faults = option_map_or (λ f. f.value.faults.items) c.found [];
+      faults = c.faults;
       codes = option_map_or (λ f. f.value.codes.items) c.found [];
-    }) × IsSetSpan c.text.now c.span × IfSome c.found (λ f. IsEnvelopeOf (set_parts c.text.now c.span) f.value.envelope) };
+    }) × IsSetSpan c.text.now c.span × IfSome c.found (λ f. IsEnvelopeOf (set_parts c.text.now c.span) f.value.envelope)
+        × (c.found ≡ None → c.faults ≡ []) };
 }
 
 impl<'a> CheckedSet<'a> {
@@ -95,12 +96,12 @@ impl<'a> CheckedSet<'a> {
     }
 
     /// Its faults (999 guide, IK3 and IK4), in their order, each once.
-    pub fn faults(&self) -> &[Fault<'a>]
+    pub fn faults(&self) -> &Faults<'a>
         ensures value { result.now ≡ self.now.faults }
         ensures exact { AreSetFaults (guide_in self.now) (parts_in self.now) self.now.faults }
         ensures rising { AreRising self.now.faults }
     {
-        found_faults(&self.found)
+        &self.faults
     }
 
     /// Its codes (999 guide, IK5) in their order, the first five; whether an earlier set of its group has its ST02 isn't asked.
@@ -115,17 +116,7 @@ impl<'a> CheckedSet<'a> {
     pub fn is_clean(&self) -> bool
         ensures { IsTrue result ↔ MeetsAlone (guide_in self.now) (parts_in self.now) }
     {
-        is_without_fault(found_faults(&self.found), found_codes(&self.found))
-    }
-}
-
-/// The faults that were found, if any.
-pub(crate) fn found_faults<'f, 'a>(found: &'f Option<Box<Found<'a>>>) -> &'f [Fault<'a>]
-    ensures { result.now ≡ option_map_or (λ f. f.value.faults.items) found.entry.now [] }
-{
-    match found {
-        None => &[],
-        Some(found) => found.faults.as_slice(),
+        is_without_fault(&self.faults, found_codes(&self.found))
     }
 }
 
@@ -140,7 +131,7 @@ pub(crate) fn found_codes<'f>(found: &'f Option<Box<Found<'_>>>) -> &'f [SetCode
 }
 
 /// Whether there is neither a fault nor a code.
-pub(crate) fn is_without_fault(faults: &[Fault], codes: &[SetCode]) -> bool
+pub(crate) fn is_without_fault(faults: &Faults, codes: &[SetCode]) -> bool
     ensures value { result ≡ is_without_fault faults.now codes.now }
     ensures none { IsTrue result ↔ ((faults.now ≡ []) × (codes.now ≡ [])) }
 {

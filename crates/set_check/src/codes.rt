@@ -10,7 +10,7 @@ ghost use Rattle.x12_segs.specs.Words.{SegValue};
 use crate::convention::has_other_convention;
 use crate::faults::{has_base_fault, has_implementation_fault};
 use guide_tree::Guide;
-use hub_kinds::{Fault, NoMemory, SetCode, read_number};
+use hub_kinds::{Faults, NoMemory, SetCode, read_number};
 use std::alloc::Global;
 use x12_segs::SegView;
 
@@ -26,7 +26,7 @@ pub const COUNT_DIGITS: usize = 10;
 /// whether an earlier set of its group has its ST02. The only error is out of memory.
 pub(crate) fn set_codes(
     alloc: Global,
-    faults: &[Fault],
+    faults: &Faults,
     guide: Option<&Guide>,
     header: &SegView,
     segments: u64,
@@ -59,7 +59,7 @@ fn add_if(codes: &mut Vec<SetCode>, holds: bool, code: SetCode) -> Result<(), No
 }
 
 /// Adds the codes that its faults show.
-fn add_fault_codes(codes: &mut Vec<SetCode>, faults: &[Fault]) -> Result<(), NoMemory>
+fn add_fault_codes(codes: &mut Vec<SetCode>, faults: &Faults) -> Result<(), NoMemory>
     ensures { OnOk result (codes.new.items ≡ codes.old.items ++ fault_codes faults.now) }
 {
     add_if(codes, has_base_fault(faults), SetCode::SegmentsInError)?;

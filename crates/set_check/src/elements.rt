@@ -8,7 +8,7 @@ ghost use Rattle.set_walk.specs.Told.{Adds};
 ghost use Rattle.set_check.specs.Adding.{IsErrorBelow, AreSound};
 
 use guide_tree::{Guide, Node};
-use hub_kinds::{Fault, NoMemory};
+use hub_kinds::{Faults, NoMemory};
 use loop_match::Placing;
 use set_walk::tell_elements;
 use std::alloc::Global;
@@ -17,7 +17,7 @@ use x12_segs::SegView;
 /// Adds the element faults of the segment with an index in the body, where it has a place.
 fn add_at<'a>(
     alloc: Global,
-    faults: &mut Vec<Fault<'a>>,
+    faults: &mut Faults<'a>,
     index: usize,
     seg: &SegView<'a>,
     nodes: &'a [Node],
@@ -27,8 +27,8 @@ fn add_at<'a>(
     requires slots { map slot_in placing.now.given ≡ map (slot_given (nodes_view nodes.now)) (map place_in placing.now.given) }
     requires few { index + 2 < 2 ^ 64 }
     ensures { OnOk result ((old : List Fault) (segs : List SegValue) → slice_get segs index ≡ Some seg.now
-        → Adds old faults.old.items (IsErrorBelow (nodes_view nodes.now) segs (map place_in placing.now.given) index)
-        → Adds old faults.new.items (IsErrorBelow (nodes_view nodes.now) segs (map place_in placing.now.given) (index + 1))) }
+        → Adds old faults.old (IsErrorBelow (nodes_view nodes.now) segs (map place_in placing.now.given) index)
+        → Adds old faults.new (IsErrorBelow (nodes_view nodes.now) segs (map place_in placing.now.given) (index + 1))) }
 {
     match placing.slot(index) {
         None => Ok(()),
@@ -45,14 +45,14 @@ fn add_at<'a>(
 /// Adds the element faults of the segments that have a place.
 fn add_elements<'a>(
     alloc: Global,
-    faults: &mut Vec<Fault<'a>>,
+    faults: &mut Faults<'a>,
     segs: &[SegView<'a>],
     nodes: &'a [Node],
     placing: &Placing<'a>,
 ) -> Result<(), NoMemory>
     requires sound { AreSound (nodes_view nodes.now) }
     requires slots { map slot_in placing.now.given ≡ map (slot_given (nodes_view nodes.now)) (map place_in placing.now.given) }
-    ensures { OnOk result (Adds faults.old.items faults.new.items
+    ensures { OnOk result (Adds faults.old faults.new
         (IsErrorBelow (nodes_view nodes.now) segs.now (map place_in placing.now.given) (length segs.now))) }
 {
     for i in 0..segs.len() {
@@ -67,14 +67,14 @@ pub(crate) fn element_faults<'a>(
     segs: &[SegView<'a>],
     placing: &Placing<'a>,
     guide: &'a Guide,
-) -> Result<Vec<Fault<'a>>, NoMemory>
+) -> Result<Faults<'a>, NoMemory>
     requires { map slot_in placing.now.given ≡ map (slot_given (guide_of guide.now).nodes) (map place_in placing.now.given) }
-    ensures errors { IfOk result (λ v. Adds [] v.items
+    ensures errors { IfOk result (λ v. Adds [] v
         (IsErrorBelow (guide_of guide.now).nodes segs.now (map place_in placing.now.given) (length segs.now))) }
     ensures well { IsWellFormed (guide_of guide.now) }
 {
     let rows = guide.rows();
-    let mut faults = Vec::new(alloc);
+    let mut faults = Faults::new(alloc);
     add_elements(alloc, &mut faults, segs, rows.nodes.as_slice(), placing)?;
     Ok(faults)
 }

@@ -16,7 +16,7 @@ use crate::envelope::{Envelope, envelope_of};
 use crate::segments::segments_of;
 use guide_fast::FastGuide;
 use guide_tree::Guide;
-use hub_kinds::{Fault, NoMemory};
+use hub_kinds::{Faults, NoMemory};
 use set_walk::{WalkedSet, walk_set};
 use std::alloc::Global;
 use x12_segs::{SegView, SetSpan};
@@ -53,7 +53,7 @@ pub fn check_set_fast<'a, 'g: 'a>(
 #[derive(Drop)]
 struct Walked<'a> {
     envelope: Envelope<'a>,
-    faults: Vec<Fault<'a>>,
+    faults: Faults<'a>,
 }
 
 /// What one walk over a set finds, its faults in their order; none where it has no guide, or where its hierarchy or a dependency of its
@@ -67,8 +67,8 @@ fn walked_by<'a, 'g: 'a>(
     requires { IsSetSpan text.now set.now }
     ensures envelope { IfOk result (λ found. IfSome found (λ w. IsEnvelopeOf (set_parts text.entry.now set.now) w.envelope)) }
     ensures faults { IfOk result (λ found. IfSome found (λ w.
-        AreSetFaults (guide_tree_of (option_copied fast.entry)) (set_parts text.entry.now set.now) w.faults.items)) }
-    ensures rising { IfOk result (λ found. IfSome found (λ w. AreRising w.faults.items)) }
+        AreSetFaults (guide_tree_of (option_copied fast.entry)) (set_parts text.entry.now set.now) w.faults)) }
+    ensures rising { IfOk result (λ found. IfSome found (λ w. AreRising w.faults)) }
 {
     let Some(fast) = fast else {
         return Ok(None);
@@ -101,16 +101,16 @@ fn set_faults_fast<'a, 'g: 'a>(
     set: &SetSpan,
     segs: &[SegView<'a>],
     fast: Option<&FastGuide<'g>>,
-) -> Result<Vec<Fault<'a>>, NoMemory>
+) -> Result<Faults<'a>, NoMemory>
     requires some { 1 ≤ length segs.now }
     requires room { 1 ≤ before_trailer set.now.closed (length segs.now) }
     requires read { All (λ s. s.delims ≡ set.now.delims) segs.now }
     ensures exact { IfOk result (λ v.
-        AreSetFaults (guide_tree_of (option_copied fast.entry)) (parts_of set.now.delims set.now.closed segs.now) v.items) }
-    ensures rising { IfOk result (λ v. AreRising v.items) }
+        AreSetFaults (guide_tree_of (option_copied fast.entry)) (parts_of set.now.delims set.now.closed segs.now) v) }
+    ensures rising { IfOk result (λ v. AreRising v) }
 {
     match fast {
-        None => Ok(Vec::new(alloc)),
+        None => Ok(Faults::new(alloc)),
         Some(fast) => body_faults_fast(alloc, set, segs, fast),
     }
 }

@@ -9,12 +9,12 @@ ghost use Rattle.set_check.specs.Envelope.{codes_found};
 ghost use Rattle.set_check.specs.Verdict.{tells_of_faults, tolerates, verdict_on};
 ghost use Rattle.x12_segs.specs.Words.{element_of};
 
-use crate::checked::{CheckedSet, Found, found_codes, found_faults, is_without_fault};
+use crate::checked::{CheckedSet, Found, found_codes, is_without_fault};
 use crate::codes::set_codes;
 use crate::envelope::header_of;
 use crate::tolerance::tolerates;
 use guide_tree::Guide;
-use hub_kinds::{Fault, Items, Lent, NoMemory, SetAnswer, SetCode, Verdict};
+use hub_kinds::{Faults, Items, Lent, NoMemory, SetAnswer, SetCode, Verdict};
 use std::alloc::Global;
 use std::boxed::Box;
 use x12_segs::SegView;
@@ -33,12 +33,7 @@ impl<'a> CheckedSet<'a> {
         ensures value { result ≡ verdict_with (guide_in self.now) (parts_in self.now) self.now.faults earlier }
         ensures meets { result ≡ Accepted ↔ ((earlier ≡ false) × MeetsAlone (guide_in self.now) (parts_in self.now)) }
     {
-        verdict_by(
-            self.guide,
-            found_faults(&self.found),
-            found_codes(&self.found),
-            earlier,
-        )
+        verdict_by(self.guide, &self.faults, found_codes(&self.found), earlier)
     }
 
     /// What an acknowledgment reads of it (999 guide, AK2 to IK5), by whether an earlier set of its group has its ST02. The only
@@ -51,11 +46,15 @@ impl<'a> CheckedSet<'a> {
             text,
             span,
             guide,
+            faults,
             found,
         } = self;
         match found {
             None => clean_answer(alloc, &header_of(text, &span), earlier, verdict),
-            Some(found) => found_answer(alloc, guide, Box::into_inner(found), earlier, verdict),
+            Some(found) => {
+                let found = Box::into_inner(found);
+                found_answer(alloc, guide, faults, found, earlier, verdict)
+            }
         }
     }
 }
@@ -85,16 +84,17 @@ fn clean_answer<'a>(
         identifier: Lent::new(identifier),
         control: Lent::new(control),
         convention: Lent::new(convention),
-        faults: Items::from_vec(Vec::new(alloc)),
+        faults: Faults::new(alloc),
         codes: Items::from_vec(codes),
         verdict,
     })
 }
 
-/// What is answered to a set in which this was found, by its guide if it has one.
+/// What is answered to a set with these faults in which this was found, by its guide if it has one.
 fn found_answer<'a>(
     alloc: Global,
     guide: Option<&Guide>,
+    faults: Faults<'a>,
     found: Found<'a>,
     earlier: bool,
     verdict: Verdict,
@@ -103,22 +103,18 @@ fn found_answer<'a>(
       identifier = element_of found.entry.envelope.header 1;
       control = control_of found.entry.envelope.header;
       convention = element_of found.entry.envelope.header 3;
-      faults = found.entry.faults.items;
+      faults = faults.entry;
       codes =
-          codes_found (guide_tree_of (option_copied guide.entry)) found.entry.envelope found.entry.faults.items
+          codes_found (guide_tree_of (option_copied guide.entry)) found.entry.envelope faults.entry
           found.entry.codes.items earlier;
       verdict = verdict;
     }) }
 {
-    let Found {
-        faults,
-        codes,
-        envelope,
-    } = found;
+    let Found { codes, envelope } = found;
     let codes = if earlier {
         set_codes(
             alloc,
-            faults.as_slice(),
+            &faults,
             guide,
             &envelope.header,
             envelope.segments,
@@ -133,14 +129,14 @@ fn found_answer<'a>(
         identifier: Lent::new(identifier),
         control: Lent::new(control),
         convention: Lent::new(convention),
-        faults: Items::from_vec(faults),
+        faults,
         codes: Items::from_vec(codes),
         verdict,
     })
 }
 
 /// The verdict by the faults, the codes where no earlier set is asked for, and whether there is one: it rejects the set.
-fn verdict_by(guide: Option<&Guide>, faults: &[Fault], codes: &[SetCode], earlier: bool) -> Verdict
+fn verdict_by(guide: Option<&Guide>, faults: &Faults, codes: &[SetCode], earlier: bool) -> Verdict
     ensures { result ≡ if earlier then Rejected else verdict_on (guide_tree_of (option_copied guide.entry)) faults.now codes.now }
 {
     if earlier {
@@ -169,8 +165,13 @@ fn tells_of_faults(code: SetCode) -> bool
     )
 }
 
-fn are_tolerated(guide: Option<&Guide>, faults: &[Fault]) -> bool
+fn are_tolerated(guide: Option<&Guide>, faults: &Faults) -> bool
     ensures { result ≡ list_all (tolerates (guide_tree_of (option_copied guide.entry))) faults.now }
 {
-    faults.iter().all(|fault| tolerates(guide, fault))
+    for i in 0..faults.len() {
+        if !tolerates(guide, &faults.at(i)) {
+            return false;
+        }
+    }
+    true
 }

@@ -46,7 +46,7 @@ abbrev Begun : GuideTree → List SegValue → Fault → (found : List Fault) �
 Begun g rest f found last =
     (Contains found f ⊎ IsErrorFrom g.nodes 2 (last_of (place_view last)) rest f) ↔ IsErrorFrom g.nodes 2 None rest f
 
-pub seen_nothing : (g : GuideTree) (s : Seen) → s.walk.last.items ≡ [] → s.walk.count ≡ 0 → s.structure ≡ [] → s.errors.items ≡ []
+pub seen_nothing : (g : GuideTree) (s : Seen) → s.walk.last.items ≡ [] → s.walk.count ≡ 0 → s.structure ≡ [] → s.errors ≡ []
     → s.kept.hls.items ≡ [] → s.kept.names.items ≡ [] → s.kept.labelled.items ≡ [] → s.trailer ≡ None → IsSeen g s []
 seen_nothing g s last count structure errors hls names labelled trailer = record {
   body = [];
@@ -62,7 +62,7 @@ seen_nothing g s last count structure errors hls names labelled trailer = record
       (placing_from g.nodes (last_in s.walk) (map elements_of rest))) count
       ∙ ap (λ (l : List Step). pass g end 2 (last_of (place_view l)) (map elements_of rest)
       (placing_from g.nodes (last_of (place_view l)) (map elements_of rest))) last;
-  errors = λ rest f. subst (λ (n : ℕ). (Contains s.errors.items f ⊎ IsErrorFrom g.nodes (n + 2) (last_in s.walk) rest f)
+  errors = λ rest f. subst (λ (n : ℕ). (Contains s.errors f ⊎ IsErrorFrom g.nodes (n + 2) (last_in s.walk) rest f)
       ↔ IsErrorFrom g.nodes 2 None rest f) (sym count)
       (subst (λ (l : List Fault). Begun g rest f l s.walk.last.items) (sym errors)
       (subst (Begun g rest f []) (sym last) (λ h. ⊎_elim (λ a. absurd (no_member f a)) (λ b. b) h, λ h. inr h)));
@@ -136,7 +136,7 @@ with_ends header body (Some x) true e = let n : length (body ++ x ∷ []) ≡ le
 -- what was found is what the body has
 module _ (g : GuideTree) (s : Seen) (done : List SegValue) (well : IsWellFormed g) (seen : IsSeen g s done) (all : List Fault)
     (same : (f : Fault) → Contains all f
-    ↔ Contains ((s.structure ++ end_faults (s.walk.count + 2) g.nodes (last_in s.walk)) ++ s.errors.items) f) where
+    ↔ Contains ((s.structure ++ end_faults (s.walk.count + 2) g.nodes (last_in s.walk)) ++ s.errors) f) where
   abbrev by_nodes : List Fault
   by_nodes = s.structure ++ end_faults (s.walk.count + 2) g.nodes (last_in s.walk)
 
@@ -152,7 +152,7 @@ module _ (g : GuideTree) (s : Seen) (done : List SegValue) (well : IsWellFormed 
         λ h. subst (λ (l : List Fault). Contains l f) (sym structure_is) (m.1 h),
       )
 
-  of_elements : (f : Fault) → Contains s.errors.items f ↔ IsElementFaultIn g.nodes 2 seen.body (places_by g seen.body) f
+  of_elements : (f : Fault) → Contains s.errors f ↔ IsElementFaultIn g.nodes 2 seen.body (places_by g seen.body) f
   of_elements f =
       let e = subst (λ (l : List SegValue). IsErrorBehind g.nodes s [] f ↔ IsErrorFrom g.nodes 2 None l f) (append-nil seen.body)
       (seen.errors [] f) in (
@@ -163,10 +163,10 @@ module _ (g : GuideTree) (s : Seen) (done : List SegValue) (well : IsWellFormed 
   pub seen_faults : (f : Fault) → Contains all f ↔ IsBodyFault g seen.body f
   seen_faults f = (
     λ h. ⊎_elim (λ a. inl ((of_nodes f).0 a)) (λ b. inr ((of_elements f).0 b))
-        (Contains-append_cases by_nodes s.errors.items f ((same f).0 h)),
+        (Contains-append_cases by_nodes s.errors f ((same f).0 h)),
     λ h. (same f).1 (⊎_elim
-        (λ a. Contains-append_left by_nodes s.errors.items f ((of_nodes f).1 a))
-        (λ b. Contains-append_right by_nodes s.errors.items f ((of_elements f).1 b)) h),
+        (λ a. Contains-append_left by_nodes s.errors f ((of_nodes f).1 a))
+        (λ b. Contains-append_right by_nodes s.errors f ((of_elements f).1 b)) h),
   )
 
 -- the rules over the whole set hold of what was kept, and so of the body
@@ -195,8 +195,8 @@ module _ (g : GuideTree) (d : Delims) (s : Seen) (done : List SegValue) (well : 
 pub seen_whole : (g : GuideTree) (d : Delims) (closed : Bool) (header : SegValue) (s : Seen) (done : List SegValue) (w : WalkedSet)
     → IsWellFormed g → AreRulesKept g d s.kept → IsSeen g s done → is_some s.trailer ≡ closed → w.ends.header ≡ header
     → w.ends.trailer ≡ s.trailer → w.ends.segments ≡ s.walk.count + (if closed then 2 else 1)
-    → ((f : Fault) → Contains w.faults.items f
-    ↔ Contains ((s.structure ++ end_faults (s.walk.count + 2) g.nodes (last_in s.walk)) ++ s.errors.items) f)
+    → ((f : Fault) → Contains w.faults f
+    ↔ Contains ((s.structure ++ end_faults (s.walk.count + 2) g.nodes (last_in s.walk)) ++ s.errors) f)
     → IsWalkedSet g d closed (header ∷ done) w
 seen_whole g d closed header s done w well rules seen ends first last counted found =
     let all : header ∷ done ≡ header ∷ (seen.body ++ trailer_list s.trailer) = ap (λ (l : List SegValue). header ∷ l) seen.all in
@@ -207,14 +207,14 @@ seen_whole g d closed header s done w well rules seen ends first last counted fo
       closed_is = ap (λ (o : Option SegValue). is_some o) last ∙ ends;
       count = counted ∙ ap (λ (n : ℕ). n + (if closed then 2 else 1)) seen.count ∙ with_ends header seen.body s.trailer closed ends
           ∙ sym (ap length all);
-      faults = seen_faults g s done well seen w.faults.items found;
+      faults = seen_faults g s done well seen w.faults found;
       hierarchy = no_hierarchy_fault g d s done well seen rules;
       dependencies = no_dependency_fault g d s done well seen rules;
     }
 
 -- in another order
 pub with_order : (g : GuideTree) (d : Delims) (closed : Bool) (segs : List SegValue) (w v : WalkedSet) → IsWalkedSet g d closed segs w
-    → v.ends ≡ w.ends → ((f : Fault) → Contains v.faults.items f ↔ Contains w.faults.items f) → IsWalkedSet g d closed segs v
+    → v.ends ≡ w.ends → ((f : Fault) → Contains v.faults f ↔ Contains w.faults f) → IsWalkedSet g d closed segs v
 with_order g d closed segs w v is ends same = record {
   body = is.body;
   segments = is.segments ∙ ap (λ (e : Ends). e.header ∷ (is.body ++ trailer_list e.trailer)) (sym ends);

@@ -64,15 +64,15 @@ LeftAt g old new seg end rest at =
 
 abbrev ErrorsAt : GuideTree → Seen → Seen → SegValue → ℕ → Type 0
 ErrorsAt g old new seg at = (rest : List SegValue) (f : Fault)
-    → (Contains new.errors.items f ⊎ IsErrorFrom g.nodes at (last_in new.walk) rest f)
-    ↔ (Contains old.errors.items f ⊎ IsErrorFrom g.nodes (old.walk.count + 2) (last_in old.walk) (seg ∷ rest) f)
+    → (Contains new.errors f ⊎ IsErrorFrom g.nodes at (last_in new.walk) rest f)
+    ↔ (Contains old.errors f ⊎ IsErrorFrom g.nodes (old.walk.count + 2) (last_in old.walk) (seg ∷ rest) f)
 
 -- a segment with a place
 pub took : (g : GuideTree) (old new : Seen) (t : Turn) (seg : SegValue) → Leads g old.walk.last.items t seg
     → place_view new.walk.last.items ≡ (turned (place_view old.walk.last.items) t).place → t.use_no ≤ old.walk.count
     → AllByRecursion (λ (s : Step). s.use_no < old.walk.count) old.walk.last.items → new.walk.count ≡ old.walk.count + 1
     → new.structure ≡ old.structure ++ step_faults (old.walk.count + 2) g.nodes (last_in old.walk) (place_view new.walk.last.items)
-    → Adds old.errors.items new.errors.items
+    → Adds old.errors new.errors
     (IsTold (old.walk.count + 2) seg (loop_id_of g.nodes (place_view new.walk.last.items)) t.slot.now)
     → ((xs : List Slotted) → IsKept old.kept xs → IsKept new.kept (xs ++ (seg, t.slot.now) ∷ [])) → new.trailer ≡ old.trailer
     → HasTaken g old new seg
@@ -83,15 +83,15 @@ took g old new t seg e goes uses room count structure adds keeps trailer =
     let next : next_for g.nodes (last_in old.walk) seg ≡ Some c = found g last t seg e in
     let gone = gone_turn g.nodes last new.walk.last.items t (elements_of seg) e goes in
     let led : last_in new.walk ≡ Some c.place = gone.1 ∙ ap Some goes in
-    let told : Adds old.errors.items new.errors.items (IsTold at seg (loop_id_of g.nodes c.place) c.slot) =
-    subst (λ (q : Place). Adds old.errors.items new.errors.items (IsTold at seg (loop_id_of g.nodes q) c.slot)) goes adds in
+    let told : Adds old.errors new.errors (IsTold at seg (loop_id_of g.nodes c.place) c.slot) =
+    subst (λ (q : Place). Adds old.errors new.errors (IsTold at seg (loop_id_of g.nodes q) c.slot)) goes adds in
     let one : at + 1 ≡ new.walk.count + 2 = omega (arith, count) in
     record {
       structure = λ end rest. subst (LeftAt g old new seg end rest) one
           (found_step g end at last new.walk.last.items (elements_of seg) (map elements_of rest) old.structure new.structure gone
           structure);
       errors = subst (ErrorsAt g old new seg) one
-          (errors_placed g.nodes at (last_in old.walk) (last_in new.walk) seg c old.errors.items new.errors.items next led told);
+          (errors_placed g.nodes at (last_in old.walk) (last_in new.walk) seg c old.errors new.errors next led told);
       kept = λ rest all k. record {
         taken = k.taken ++ (seg, c.slot) ∷ [];
         kept = keeps k.taken k.kept;
@@ -127,7 +127,7 @@ strayed g old seg told n e room count structure =
       structure = λ end rest. subst (LeftAt g old (past_stray old told n) seg end rest) one
           (found_stray g end at last last (elements_of seg) (map elements_of rest) old.structure told gone structure);
       errors = subst (ErrorsAt g old (past_stray old told n) seg) one
-          (errors_stray g.nodes at (last_in old.walk) seg old.errors.items none);
+          (errors_stray g.nodes at (last_in old.walk) seg old.errors none);
       kept = λ rest all k. record {
         taken = k.taken;
         kept = k.kept;

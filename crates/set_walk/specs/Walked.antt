@@ -79,7 +79,7 @@ structure_behind g end s rest =
 
 -- an element fault that was found, or one of the segments that are still to come
 abbrev pub IsErrorBehind : Trees → Seen → List SegValue → Fault → Type 0
-IsErrorBehind ts s rest f = Contains s.errors.items f ⊎ IsErrorFrom ts (s.walk.count + 2) (last_in s.walk) rest f
+IsErrorBehind ts s rest f = Contains s.errors f ⊎ IsErrorFrom ts (s.walk.count + 2) (last_in s.walk) rest f
 
 -- the placed segments of which some were kept, and those of the segments that are still to come, are these
 pub record IsKeptBehind (ts : Trees) (s : Seen) (rest : List SegValue) (all : List Slotted) : Type 0 where

@@ -21,7 +21,7 @@ pub record IsWalkedSet (g : GuideTree) (d : Delims) (closed : Bool) (segs : List
   pub segments : segs ≡ w.ends.header ∷ (body ++ trailer_list w.ends.trailer)
   pub closed_is : is_some w.ends.trailer ≡ closed
   pub count : w.ends.segments ≡ length segs
-  pub faults : (f : Fault) → Contains w.faults.items f ↔ IsBodyFault g body f
+  pub faults : (f : Fault) → Contains w.faults f ↔ IsBodyFault g body f
   pub hierarchy : (f : Fault) → IsHierarchyFault g d (map elements_of body) (places_by g body) f → ⊥
   pub dependencies : (end : ℕ) (f : Fault) → IsDependencyFault g d (map elements_of body) (places_by g body) end f → ⊥
 

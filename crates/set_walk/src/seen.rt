@@ -13,7 +13,7 @@ use crate::kept::{Kept, keep};
 use crate::told::tell_found;
 use crate::walk::{Walk, errors_of, looks_faultless, move_on, step_by, write_place};
 use guide_fast::{FastGuide, NextTurn};
-use hub_kinds::{ElemFault, Fault, NoMemory};
+use hub_kinds::{ElemFault, Faults, NoMemory};
 use loop_match::{Found, Turn};
 use std::alloc::Global;
 use std::mem::swap;
@@ -29,7 +29,7 @@ pub struct Seen<'a, 'g> {
     /// The structural faults.
     pub structure: Found<'a>,
     /// The faults of elements.
-    pub errors: Vec<Fault<'a>>,
+    pub errors: Faults<'a>,
     pub kept: Kept<'a, 'g>,
     pub trailer: Option<SegView<'a>>,
 }
@@ -46,7 +46,7 @@ pub(crate) fn nothing_seen<'a, 'g>(alloc: Global) -> Seen<'a, 'g>
             count: 0,
         },
         structure: Found::new(alloc),
-        errors: Vec::new(alloc),
+        errors: Faults::new(alloc),
         kept: Kept {
             hls: Vec::new(alloc),
             names: Vec::new(alloc),

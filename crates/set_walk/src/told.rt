@@ -13,14 +13,14 @@ ghost use Rattle.set_walk.specs.Told.{fault_of_element, IsTold, Adds};
 use elem_rules::{check_segment, check_segment_at};
 use guide_fast::FastGuide;
 use guide_tree::{Node, Slot};
-use hub_kinds::{ElemFault, Fault, Lent, NoMemory, SegmentCode};
+use hub_kinds::{ElemFault, Fault, Faults, Lent, NoMemory, SegmentCode};
 use loop_match::{Step, loop_id_of};
 use std::alloc::Global;
 use x12_segs::SegView;
 
 /// Adds the faults of a segment's elements, as the segment reports them.
 fn tell<'a>(
-    faults: &mut Vec<Fault<'a>>,
+    faults: &mut Faults<'a>,
     position: u64,
     seg: &SegView<'a>,
     loop_id: &'a [u8],
@@ -28,7 +28,7 @@ fn tell<'a>(
     found: Vec<ElemFault<'a>>,
 ) -> Result<(), NoMemory>
     ensures { OnOk result
-        (faults.new.items ≡ faults.old.items
+        (faults.new ≡ faults.old
         ++ map (fault_of_element position (elements_of seg.now) loop_id.now slot.now) found.entry.items) }
 {
     for elem in found {
@@ -66,7 +66,7 @@ pub(crate) fn element_faults<'a>(
 
 /// Adds these faults of the elements of the segment at a position, which has this place and slot.
 pub(crate) fn tell_found<'a>(
-    faults: &mut Vec<Fault<'a>>,
+    faults: &mut Faults<'a>,
     position: u64,
     seg: &SegView<'a>,
     nodes: &'a [Node],
@@ -75,7 +75,7 @@ pub(crate) fn tell_found<'a>(
     found: Vec<ElemFault<'a>>,
 ) -> Result<(), NoMemory>
     requires { (f : ElemFault) → Contains found.items f ↔ IsElementFault seg.now.delims (elements_of seg.now) slot.now f }
-    ensures { OnOk result (Adds faults.old.items faults.new.items
+    ensures { OnOk result (Adds faults.old faults.new
         (IsTold position seg.now (loop_id_of (nodes_view nodes.now) (place_view place.now)) slot.now)) }
 {
     let loop_id = loop_id_of(nodes, place);
@@ -87,7 +87,7 @@ pub(crate) fn tell_found<'a>(
 /// is out of memory.
 pub fn tell_elements<'a>(
     alloc: Global,
-    faults: &mut Vec<Fault<'a>>,
+    faults: &mut Faults<'a>,
     position: u64,
     seg: &SegView<'a>,
     nodes: &'a [Node],
@@ -95,7 +95,7 @@ pub fn tell_elements<'a>(
     slot: &'a Slot,
 ) -> Result<(), NoMemory>
     requires { IsSound slot.now }
-    ensures { OnOk result (Adds faults.old.items faults.new.items
+    ensures { OnOk result (Adds faults.old faults.new
         (IsTold position seg.now (loop_id_of (nodes_view nodes.now) (place_view place.now)) slot.now)) }
 {
     let found = check_segment(alloc, seg, slot)?;

@@ -14,7 +14,7 @@ use crate::seen::{Seen, nothing_seen, see};
 use crate::walk::{Walk, end_by};
 use crate::walked::WalkedSet;
 use guide_fast::FastGuide;
-use hub_kinds::{Fault, NoMemory, in_order};
+use hub_kinds::{Faults, NoMemory};
 use loop_match::Found;
 use marked_segments::MarkedSegments;
 use std::alloc::Global;
@@ -29,18 +29,15 @@ fn count_with_ends(count: u64, closed: bool) -> u64
 }
 
 /// The faults of two lists; the fewer are moved after the others, so that no list appears twice.
-fn faults_of_both<'a>(
-    structure: Vec<Fault<'a>>,
-    errors: Vec<Fault<'a>>,
-) -> Result<Vec<Fault<'a>>, NoMemory>
-    ensures { IfOk result (λ v. (f : Fault) → Contains v.items f ↔ Contains (structure.entry.items ++ errors.entry.items) f) }
+fn faults_of_both<'a>(structure: Faults<'a>, errors: Faults<'a>) -> Result<Faults<'a>, NoMemory>
+    ensures { IfOk result (λ v. (f : Fault) → Contains v f ↔ Contains (structure.entry ++ errors.entry) f) }
 {
     let (mut structure, mut errors) = (structure, errors);
     if structure.len() < errors.len() {
-        errors.append(&mut structure)?;
+        errors.append(structure)?;
         return Ok(errors);
     }
-    structure.append(&mut errors)?;
+    structure.append(errors)?;
     Ok(structure)
 }
 
@@ -49,12 +46,12 @@ fn body_faults<'a, 'g: 'a>(
     fast: &FastGuide<'g>,
     walk: &Walk,
     structure: Found<'a>,
-    errors: Vec<Fault<'a>>,
-) -> Result<Vec<Fault<'a>>, NoMemory>
+    errors: Faults<'a>,
+) -> Result<Faults<'a>, NoMemory>
     requires few { walk.now.count < 4294967296 }
     requires room { AllByRecursion (λ s. s.use_no < walk.now.count) walk.now.last.items }
-    ensures { IfOk result (λ v. (f : Fault) → Contains v.items f ↔ Contains ((structure.entry
-        ++ end_faults (walk.now.count + 2) (guide_of fast.now).nodes (last_in walk.now)) ++ errors.entry.items) f) }
+    ensures { IfOk result (λ v. (f : Fault) → Contains v f ↔ Contains ((structure.entry
+        ++ end_faults (walk.now.count + 2) (guide_of fast.now).nodes (last_in walk.now)) ++ errors.entry) f) }
 {
     let mut structure = structure;
     end_by(&mut structure, walk.count + 2, fast, walk.last.as_slice())?;
@@ -101,14 +98,14 @@ fn close<'a, 'g: 'a>(
 
 /// The faults in their order, each once.
 fn with_order<'a>(walked: WalkedSet<'a>) -> WalkedSet<'a>
-    requires { IsKeyedBy key_of walked.faults.items }
+    requires { IsKeyedBy key_of walked.faults }
     ensures ends { result.ends ≡ walked.entry.ends }
-    ensures same { (f : Fault) → Contains result.faults.items f ↔ Contains walked.entry.faults.items f }
-    ensures rising { AreRising result.faults.items }
+    ensures same { (f : Fault) → Contains result.faults f ↔ Contains walked.entry.faults f }
+    ensures rising { AreRising result.faults }
 {
     WalkedSet {
         ends: walked.ends,
-        faults: in_order(walked.faults),
+        faults: walked.faults.in_order(),
     }
 }
 
@@ -125,7 +122,7 @@ pub fn walk_set<'a, 'g: 'a>(
     requires { IsSetSpan text.now set.now }
     ensures walked { IfOk result (λ walked. IfSome walked
         (IsWalkedSet (guide_of fast.now) set.now.delims set.now.closed (span_views text.entry.now set.now))) }
-    ensures rising { IfOk result (λ walked. IfSome walked (λ w. AreRising w.faults.items)) }
+    ensures rising { IfOk result (λ walked. IfSome walked (λ w. AreRising w.faults)) }
     ensures given { IfOk result (λ walked. IsWithoutRules (guide_of fast.now) → length (span_views text.entry.now set.now) < 4294967296
         → IsTrue (is_some walked)) }
 {

@@ -3,6 +3,7 @@ use Rattle.std.specs.Prelude.{ℕ, ◌==◌, ◌&&◌, not, Bool, false, List, [
 use Rattle.std.specs.Prelude.{codes, decimal, if◌then◌else◌, length, take, drop}
 use Rattle.std.specs.List.{list_any, prefix_len}
 use Rattle.std.specs.Str.{bytes_eq}
+use Rattle.csv_fields.specs.declared.columns.TheConstants as column
 use Rattle.track_read.specs.Table.{field}
 use Rattle.sets_again.specs.declared.wanted.Wanted.{Wanted}
 use Rattle.sets_again.specs.declared.wanted.Wanted.TheVariants as wanted
@@ -11,19 +12,19 @@ abbrev pub Row : Type 0
 Row = List (List ℕ)
 
 abbrev pub offset : Row → List ℕ
-offset row = field row 1
+offset row = field row column.OFFSET
 
 abbrev pub gs06 : Row → List ℕ
-gs06 row = field row 7
+gs06 row = field row column.GS06
 
 abbrev pub st02 : Row → List ℕ
-st02 row = field row 13
+st02 row = field row column.ST02
 
 abbrev pub outcome : Row → List ℕ
-outcome row = field row 18
+outcome row = field row column.OUTCOME
 
 abbrev pub has_receiver : Row → Bool
-has_receiver row = not (length (field row 21) == 0)
+has_receiver row = not (length (field row column.RECEIVER) == 0)
 
 -- it is about the interchange that begins at this offset of the input
 abbrev pub is_at : (start : ℕ) → Row → Bool

@@ -4,17 +4,11 @@ ghost use Rattle.csv.specs.Records.{fields_of};
 ghost use Rattle.sets_again.specs.Rows as rows;
 
 use csv::ByteRecord;
+use csv_fields::columns::{GS06, OFFSET, OUTCOME, RECEIVER, ST02};
 use hub_kinds::NoMemory;
 use itoa::Buffer;
 use std::alloc::Global;
-use track_read::{OUTCOME, RECEIVER, field};
-
-/// The places of fields in a row, counted from 0, beside those that `track_read` names.
-const OFFSET: usize = 1;
-
-const GS06: usize = 7;
-
-const ST02: usize = 13;
+use track_read::field;
 
 pub(crate) fn gs06(row: &ByteRecord) -> &[u8]
     ensures { result.now ≡ rows.gs06 (fields_of row.entry.now) }

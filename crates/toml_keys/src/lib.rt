@@ -10,7 +10,7 @@
 //!
 //! Source: own; what a file's table holds is said by `toml`.
 //!
-//! Tests: `trial_check`, `trial_command`, `trial_guides`, `trial_nights`, `trial_sets`, `trial_track`, `trial_workers`.
+//! Tests: `trial_command`, `trial_explain`, `trial_guides`, `trial_nights`, `trial_sets`, `trial_track`, `trial_workers`.
 #![tactic(auto)]
 
 mod file_fault;

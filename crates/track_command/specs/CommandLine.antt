@@ -5,7 +5,7 @@ use Rattle.clap.specs.Words.{App, Rule, Text, first_value, takes, with_rule}
 use Rattle.clap.specs.declared.parser.matches.Found.{Found}
 use Rattle.moment.specs.Moment.{IsMoment}
 use Rattle.night_command.specs.CommandLine.{option_wanted, piece_given, piece_rule, with_night, workers_given, workers_rule}
-use Rattle.night_ends.specs.Words.{values_found}
+use Rattle.system_io.specs.Words.{values_found}
 use Rattle.program_frame.specs.Arguments.{option_repeated, program, value_in, values_in}
 use Rattle.program_frame.specs.Matching.{AsksForText}
 use Rattle.set_documents.specs.Documents.{DocumentValue}

@@ -1,6 +1,6 @@
 ghost use Rattle.std.specs.Prelude.{◌≡◌, false, map, IfOk, IfErr};
 ghost use Rattle.clap.specs.Words.{app_of, first_value, found_of, rule_of};
-ghost use Rattle.night_ends.specs.Words.{values_found};
+ghost use Rattle.system_io.specs.Words.{values_found};
 ghost use Rattle.program_frame.specs.Mistake.{IsUsage};
 ghost use Rattle.track_command.specs.CommandLine.{AreGiven, IsAsked, IsCommandLine, IsGiven, document_rule, night_app, track_app};
 ghost use Rattle.track_command.specs.Failure.{IsOfWords, status_of};
@@ -13,11 +13,11 @@ use night_command::{
     Failure, Sharing, moment_given, option_wanted, piece_option, sharing_given, with_night,
     workers_option,
 };
-use night_ends::{copied, with_argument};
 use program_frame::{Matched, Mistake, match_words, option_repeated, program};
 use set_documents::{Document, documents_given};
 use std::alloc::{AllocError, Global};
 use std::convert::AsStr;
+use system_io::{copied, with_argument};
 
 /// What comes after the options in the text of `--help`.
 const COLUMNS_AND_STATUSES: &str =

@@ -5,10 +5,10 @@ ghost use Rattle.track_command.specs.Places.{part_of};
 use crate::failure::TrackFailure;
 use hub_kinds::{Text, copy_text};
 use night_command::Failure;
-use night_ends::{Absent, Looked, Presence, look_at};
 use std::alloc::{AllocError, Global};
 use std::marker::Model;
 use std::rt::Files;
+use system_io::{Absent, Looked, Presence, look_at};
 
 /// That a file can go to a path: nothing is there, nor beside it, where it is written first. Only `free_by` makes one.
 #[derive(Drop)]

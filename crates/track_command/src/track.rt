@@ -17,7 +17,6 @@ use crate::free::{Free, is_free};
 use crate::whole::Places;
 use hub_kinds::{Lent, NoMemory, copy_text};
 use night_command::{Failure, PutFault, setup_at, source_of};
-use night_ends::{Opened, Outbox, open_at, print_text};
 use partner_setup::Setup;
 use set_documents::Document;
 use std::alloc::Global;
@@ -26,6 +25,7 @@ use std::fs::OpenFile;
 use std::io::{Read, Write};
 use std::rt::Files;
 use stream_read::{Held, Source, StreamFault};
+use system_io::{Opened, Outbox, open_at, print_text};
 use track_equal::tracks_are_one;
 use track_table::{Track, track_plain};
 

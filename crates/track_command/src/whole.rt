@@ -1,15 +1,15 @@
 ghost use Rattle.std.specs.Prelude.{◌≡◌, IfOk, Some, string_bytes};
 ghost use Rattle.std.specs.List.{flat_map};
-ghost use Rattle.night_ends.specs.Paths.{AsksForNew};
+ghost use Rattle.system_io.specs.Paths.{AsksForNew};
 
 use crate::free::part_path;
 use hub_kinds::Lent;
-use night_ends::{Created, Outbox, Written, create_new_at, faults_behind, write_and_sync};
 use std::alloc::Global;
 use std::fs::OpenFile;
 use std::io::ErrorKind;
 use std::rt::Files;
 use std::{fs, io};
+use system_io::{Created, Outbox, Written, create_new_at, faults_behind, write_and_sync};
 
 /// The places that paths name. Each of them has its file whole, or not at all.
 #[derive(Drop)]

@@ -12,7 +12,7 @@ use Rattle.night_definition.specs.Elements.{numbered}
 use Rattle.night_definition.specs.Codes.{fault_texts, group_code_text, group_verdict_text, set_code_text, verdict_text}
 use Rattle.night_definition.specs.Setup.{Setup, Judged}
 use Rattle.night_definition.specs.Answers.{Answer, AnsweredGroup, Answered}
-use Rattle.night_definition.specs.Written.{padded_number}
+use Rattle.night_definition.specs.Written.{padded_number, set_number}
 use Rattle.night_definition.specs.Acknowledgments.{num, ta1_note, acknowledged_to}
 use Rattle.night_definition.specs.Deliveries.{Sent, groups_of, interchanges_of}
 use Rattle.night_definition.specs.Report.{name_of}
@@ -70,4 +70,4 @@ delivered_cells night place p before s =
     codes "delivered" ∷ [] ∷ [] ∷ p.name
     ∷ padded_number 9 (num p.counters.interchange (length acks + length before / p.cap))
     ∷ decimal (num p.counters.group (groups_in acks + (group_count p.cap (before ++ s ∷ []) - 1)))
-    ∷ padded_number 4 (num p.counters.set (length before)) ∷ []
+    ∷ set_number (num p.counters.set (length before)) ∷ []

@@ -13,10 +13,10 @@ use Rattle.partner_setup.specs.declared.partner.Partner.{Partner}
 use Rattle.partner_setup.specs.Setup.{SetupValue}
 use Rattle.count_numbers.specs.Num as old_num
 use Rattle.x12_write.specs.Number as old_number
-use Rattle.judged_text.specs.Judged.{PlacedValue, is_fa}
+use Rattle.answered_sets.specs.Judged.{PlacedValue, is_fa}
 use Rattle.mailbox.specs.Deliveries as old_deliveries
 use Rattle.mailbox.specs.Mailbox.{group_total}
-use Rattle.checked_text.specs.CheckedText.{CheckedInterchange}
+use Rattle.set_answers.specs.CheckedText.{CheckedInterchange}
 use Rattle.set_documents.specs.Documents.{DocumentValue}
 use Rattle.track_table.specs.Noted.{notes_of}
 use Rattle.track_table.specs.Track.{tracked_by}
@@ -145,10 +145,10 @@ module _ (setup : SetupValue) (documents : List DocumentValue) (cs : List Checke
       pub delivered_is : old.delivered_cells by before p place (Some partner)
           ≡ room_cells.delivered_cells xs place partner earlier_sent s
       delivered_is =
-          ap (λ n. fields (old_number.padded_number 9 n) (old_number.padded_number 4 old_third) old_second) interchange_is
-          ∙ ap (λ n. fields (old_number.padded_number 9 first) (old_number.padded_number 4 old_third) n) group_is
-          ∙ ap (λ n. fields (old_number.padded_number 9 first) (old_number.padded_number 4 n) second) set_is
-          ∙ ap (λ t. fields t (old_number.padded_number 4 third) second) (sym (known.texts.number 9 first))
+          ap (λ n. fields (old_number.padded_number 9 n) (old_number.set_number old_third) old_second) interchange_is
+          ∙ ap (λ n. fields (old_number.padded_number 9 first) (old_number.set_number old_third) n) group_is
+          ∙ ap (λ n. fields (old_number.padded_number 9 first) (old_number.set_number n) second) set_is
+          ∙ ap (λ t. fields t (old_number.set_number third) second) (sym (known.texts.number 9 first))
           ∙ ap (λ t. fields (room_written.padded_number 9 first) t second) (sym (known.texts.number 4 third))
 
     outcome_is : (o : room_deliveries.Outcome) → old.outcome_cells by before p (now o) ≡ room.outcome_cells there documents xs placed s o

@@ -13,8 +13,8 @@ use Rattle.hub_kinds.specs.declared.set_codes.SetCode.{SetCode}
 use Rattle.hub_kinds.specs.declared.set_codes.Verdict.{Verdict}
 use Rattle.partner_setup.specs.declared.partner.Partner.{Partner}
 use Rattle.partner_setup.specs.Setup.{SetupValue}
-use Rattle.judged_text.specs.Answered.{ta1_note}
-use Rattle.judged_text.specs.Judged.{JudgedValue, PlacedValue, is_fa, segments_in, verdict_by_standing}
+use Rattle.answered_sets.specs.Answered.{ta1_note}
+use Rattle.answered_sets.specs.Judged.{JudgedValue, PlacedValue, is_fa, segments_in, verdict_by_standing}
 use Rattle.night_report.specs.Report.{ShownGroup}
 use Rattle.set_documents.specs.Documents.{DocumentValue}
 use Rattle.track_table.specs.declared.notes.SetNotes.{SetNotes}

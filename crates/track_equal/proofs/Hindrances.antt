@@ -8,8 +8,8 @@ use Rattle.std.specs.List.{slice_split, onto_first, remove}
 use Rattle.std.specs.Option.{option_map_or}
 use Rattle.x12_bytes.specs.declared.delims.Delims.{Delims}
 use Rattle.x12_segs.specs.Words.{Seg, SegValue, elements_of, view_of}
-use Rattle.judged_text.specs.Judged.{PlacedValue, delims_in}
-use Rattle.mailbox.specs.Deliveries.{inner_in, is_in_the_way, kept_parts}
+use Rattle.answered_sets.specs.Judged.{PlacedValue, delims_in}
+use Rattle.mailbox.specs.Deliveries.{inner_in, collides, kept_parts}
 use Rattle.night_definition.specs.Segments.{Elements, Segment, element}
 use Rattle.night_definition.specs.Acknowledgments.{is_delimiter}
 use Rattle.night_definition.specs.Deliveries.{Sent}
@@ -76,10 +76,10 @@ parts_found q c none (x ∷ xs) = by (x == c) refl (parts_found q c none xs)
     by false e more = onto_found q x (slice_split (λ b. b == c) xs) ∙ ap (λ (o : Option ℕ). if q x then Some x else o) more
 
 -- of a header: all but its second element
-parts_are : (from to : Delims) (texts : List (List ℕ)) → old.byte_in_parts from to texts ≡ found_in (is_in_the_way from to) texts
+parts_are : (from to : Delims) (texts : List (List ℕ)) → old.byte_in_parts from to texts ≡ found_in (collides from to) texts
 parts_are from to [] = refl
 parts_are from to (t ∷ texts) =
-    ap (old.byte_or (old.byte_in_the_way from to t)) (parts_are from to texts) ∙ sym (found_cons (is_in_the_way from to) t texts)
+    ap (old.byte_or (old.byte_in_the_way from to t)) (parts_are from to texts) ∙ sym (found_cons (collides from to) t texts)
 
 header_found : (q : ℕ → Bool) (st : Elements) → found_in q (take 2 st ++ drop 3 st) ≡ found_in q (element 0 st ∷ remove (drop 1 st) 1)
 header_found q [] = refl
@@ -98,7 +98,7 @@ here_is (Some b) n h = refl
 
 module _ (from to : Delims) where
   abbrev q : ℕ → Bool
-  q = is_in_the_way from to
+  q = collides from to
 
   way : (λ (b : ℕ). is_delimiter to b && not (is_delimiter from b)) ≡ q
   way = fun_ext (in_way from to)
@@ -129,7 +129,7 @@ hindrance_is to p s is =
     ∙ ap (λ (segs : List SegValue). room.here_or 1 (old.byte_in_parts d to texts) (room.first_in d to 2 (map elements_of segs)))
     (sym (inner_are p))
     ∙ ap (λ (o : Option ℕ). room.here_or 1 o (room.first_in d to 2 (map elements_of (inner_in p))))
-    (parts_are d to texts ∙ sym (header_found (is_in_the_way d to) st) ∙ sym (byte_is d to (take 2 st ++ drop 3 st)))
+    (parts_are d to texts ∙ sym (header_found (collides d to) st) ∙ sym (byte_is d to (take 2 st ++ drop 3 st)))
     ∙ ap (λ (st : Elements). room.first_in d to 1 ((take 2 st ++ drop 3 st) ∷ map elements_of (inner_in p))) (sym is.st)
     ∙ ap (λ (es : List Elements). room.first_in d to 1
     ((take 2 s.answer.set.header.elements ++ drop 3 s.answer.set.header.elements) ∷ es)) (sym is.inner)

@@ -10,14 +10,14 @@ use Rattle.partner_setup.specs.declared.partner.Partner.{Partner}
 use Rattle.partner_setup.specs.Setup.{SetupValue}
 use Rattle.guide_tree.specs.View.{guide_of}
 use Rattle.guide_tree.specs.Tree.{GuideTree}
-use Rattle.judged_text.specs.Judged.{PlacedValue, is_refused}
+use Rattle.answered_sets.specs.Judged.{PlacedValue, is_refused}
 use Rattle.mailbox.specs.Deliveries as old_deliveries
 use Rattle.mailbox.specs.Mailbox.{group_total}
 use Rattle.mailbox.specs.Numbered.{NumberedValue, numbered_from}
 use Rattle.count_numbers.specs.Layout as layout
-use Rattle.checked_text.specs.Acknowledgments.{acknowledgment_group_count, has_reports, is_there}
-use Rattle.checked_text.specs.CheckedText.{CheckedInterchange, acknowledged_to, acknowledgment_of, groups_to, is_partner, recipient_by}
-use Rattle.checked_text.specs.CheckedText.{recipient_of}
+use Rattle.set_answers.specs.Acknowledgments.{acknowledgment_group_count, has_reports, is_there}
+use Rattle.set_answers.specs.CheckedText.{CheckedInterchange, acknowledged_to, acknowledgment_of, groups_to, is_partner, recipient_by}
+use Rattle.set_answers.specs.CheckedText.{recipient_of}
 use Rattle.track_table.specs.Noted.{notes_of}
 use Rattle.track_table.specs.declared.notes.Notes.{Notes}
 use Rattle.track_table.specs.Mailed as old

@@ -12,8 +12,8 @@ use Rattle.hub_kinds.specs.declared.interchange.InterchangeFault.{InterchangeFau
 use Rattle.env_index.specs.Words.{GroupEntry, span_of}
 use Rattle.env_index.specs.declared.entry.SetEnvelope.{SetEnvelope}
 use Rattle.partner_setup.specs.Setup.{SetupValue}
-use Rattle.judged_text.specs.Judged.{JudgedValue, PlacedValue, is_fa, is_refused, sets_from, sets_of, sets_of_groups_from, standing_at}
-use Rattle.checked_text.specs.CheckedText.{CheckedInterchange, judged}
+use Rattle.answered_sets.specs.Judged.{JudgedValue, PlacedValue, is_fa, is_refused, sets_from, sets_of, sets_of_groups_from, standing_at}
+use Rattle.set_answers.specs.CheckedText.{CheckedInterchange, judged}
 use Rattle.night_report.specs.Report.{ShownGroup, groups_shown, shown_from}
 use Rattle.set_documents.specs.Documents.{DocumentValue}
 use Rattle.track_table.specs.Notes.{no_notes}

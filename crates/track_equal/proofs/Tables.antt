@@ -11,11 +11,11 @@ use Rattle.env_index.specs.Words.{GroupEntry}
 use Rattle.env_index.specs.declared.entry.SetEnvelope.{SetEnvelope}
 use Rattle.guide_tree.specs.View.{guide_of}
 use Rattle.partner_setup.specs.Setup.{SetupValue}
-use Rattle.judged_text.specs.Judged.{JudgedValue, PlacedValue, is_refused, sets_of}
-use Rattle.checked_text.specs.CheckedText.{CheckedInterchange, judged}
+use Rattle.answered_sets.specs.Judged.{JudgedValue, PlacedValue, is_refused, sets_of}
+use Rattle.set_answers.specs.CheckedText.{CheckedInterchange, judged}
 use Rattle.night_report.specs.Report.{report_text}
 use Rattle.night_report.specs.Clean as old_clean
-use Rattle.night_writing.specs.Night.{IsKnown, judgements}
+use Rattle.night_batches.specs.Night.{IsKnown, judgements}
 use Rattle.night_law.proofs.ForAbove.{IsThere}
 use Rattle.set_documents.specs.Documents.{DocumentValue}
 use Rattle.track_table.specs.Noted.{notes_of}
@@ -120,7 +120,7 @@ module _ (laws : Laws) (text : List ℕ) (setup : SetupValue) where
   all_here (c ∷ cs) (k ∷ ks) are told answers = (
     record {
       told = told.0;
-      groups = ap (λ (a : Rattle.checked_text.specs.Acknowledgments.Acknowledgment). a.groups) answers.0.acknowledgment;
+      groups = ap (λ (a : Rattle.set_answers.specs.Acknowledgments.Acknowledgment). a.groups) answers.0.acknowledgment;
       segments = segments_of c k are.0;
     },
     all_here cs ks are.1 told.1 answers.1,

@@ -3,8 +3,8 @@ use Rattle.std.proofs.Common.{ℕ, List, [], sym, ◌∙◌}
 use Rattle.accepted_guides.specs.Accepted.{AreGuidesAccepted}
 use Rattle.partner_setup.specs.Setup.{SetupValue}
 use Rattle.set_documents.specs.Documents.{DocumentValue}
-use Rattle.night_writing.specs.Night.{IsNight}
-use Rattle.night_writing.specs.declared.night.Night.{Night}
+use Rattle.night_batches.specs.Night.{IsNight}
+use Rattle.night_batches.specs.declared.night.Night.{Night}
 use Rattle.track_table.specs.Track.{IsTrack}
 use Rattle.track_table.specs.declared.track.Track.{Track}
 use Rattle.track_equal.specs.Table.{IsTableOf}

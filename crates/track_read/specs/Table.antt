@@ -5,6 +5,7 @@ use Rattle.std.specs.List.{list_all}
 use Rattle.std.specs.Option.{unwrap_or}
 use Rattle.csv.specs.Records.{field_at}
 use Rattle.csv_fields.specs.Csv.{table_text}
+use Rattle.csv_fields.specs.declared.columns.TheConstants.{COLUMNS}
 
 -- the columns of an interchange, of its group, of a set and its answer, and of the set's outcome
 abbrev pub column_line : List ℕ
@@ -14,7 +15,7 @@ column_line =
 
 -- a row has all fields
 abbrev pub is_wide : (row : List (List ℕ)) → Bool
-is_wide row = length row == 25
+is_wide row = length row == COLUMNS
 
 -- the text is the records of these rows, and nothing else
 pub record HasRows (text : List ℕ) (rows : List (List (List ℕ))) : Type 0 where

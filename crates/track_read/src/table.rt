@@ -8,11 +8,9 @@ ghost use Rattle.track_read.specs.Table as table;
 
 use crate::written::{append_record, column_line};
 use csv::{ByteRecord, ReaderBuilder};
+use csv_fields::columns::COLUMNS;
 use hub_kinds::NoMemory;
 use std::alloc::Global;
-
-/// How many fields a row has.
-const FIELDS: usize = 25;
 
 /// Every record of `text`. A flexible reader of bytes that are in memory fails only if memory is refused.
 fn records_of(alloc: Global, text: &[u8]) -> Result<Vec<ByteRecord>, NoMemory>
@@ -36,7 +34,7 @@ fn records_of(alloc: Global, text: &[u8]) -> Result<Vec<ByteRecord>, NoMemory>
 fn are_wide(rows: &[ByteRecord]) -> bool
     ensures { result ≡ list_all (λ row. table.is_wide (fields_of row)) rows.now }
 {
-    rows.iter().all(|row| row.len() == FIELDS)
+    rows.iter().all(|row| row.len() == COLUMNS)
 }
 
 /// Whether `text` is what is written of `rows`.

@@ -3,11 +3,11 @@ use Rattle.std.proofs.Common.{◌≡◌, ℕ, List, Option, refl, ap, subst, ◌
 use Rattle.hub_kinds.specs.declared.interchange.InterchangeFault.{InterchangeFault}
 use Rattle.env_index.specs.Words.{IndexValue, IsIndex, settled}
 use Rattle.partner_setup.specs.Setup.{SetupValue}
-use Rattle.checked_text.specs.CheckedText.{AreCheckedAs}
-use Rattle.checked_text.specs.Settled.{settled_faults}
+use Rattle.set_answers.specs.CheckedText.{AreCheckedAs}
+use Rattle.set_answers.specs.Settled.{settled_faults}
 use Rattle.night_report.specs.Clean.{is_clean}
 use Rattle.night_report.specs.Report.{report_text}
-use Rattle.night_writing.specs.Night.{judgements}
+use Rattle.night_batches.specs.Night.{judgements}
 use Rattle.set_documents.specs.Documents.{DocumentValue}
 use Rattle.track_table.specs.Rows.{track_text}
 use Rattle.track_table.specs.Track.{IsTrack, IsTrackIn, tracked_by}

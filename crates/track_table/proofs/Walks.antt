@@ -9,13 +9,13 @@ use Rattle.std.proofs.lemmas.Option.{slice_get_within}
 use Rattle.env_index.specs.declared.entry.SetEnvelope.{SetEnvelope}
 use Rattle.env_index.specs.Words.{GroupEntry}
 use Rattle.partner_setup.specs.Setup.{SetupValue}
-use Rattle.judged_text.specs.declared.standing.GroupStanding.{GroupStanding}
-use Rattle.judged_text.specs.Judged.{JudgedValue, PlacedValue, all_sets, sets_of_groups_from, sets_from, sets_of}
+use Rattle.answered_sets.specs.declared.standing.GroupStanding.{GroupStanding}
+use Rattle.answered_sets.specs.Judged.{JudgedValue, PlacedValue, all_sets, sets_of_groups_from, sets_from, sets_of}
 use Rattle.mailbox.proofs.ForAbove.{groups_snoc, sets_snoc, take_one_more}
 use Rattle.track_table.specs.declared.notes.GroupNotes.{GroupNotes}
 use Rattle.track_table.specs.declared.notes.Notes.{Notes}
 use Rattle.x12_bytes.specs.Header.{field_of}
-use Rattle.judged_text.specs.Answered.{ta1_note}
+use Rattle.answered_sets.specs.Answered.{ta1_note}
 use Rattle.track_table.specs.Cells.{fault_cell, group_cells, interchange_cells, no_set_notes, note_cell, sender_name, set_cells}
 use Rattle.csv_fields.specs.Csv.{cells_text, fields_text, field_text, record_text, table_text}
 use Rattle.track_table.specs.Rows.{TrackedBy, ends_of, groups_rows, interchange_rows, notes_at, rows_from, set_rows, sets_at}

@@ -1,7 +1,7 @@
 -- 999 guide (005010X231), IK5 and AK9: what is kept of the answers to groups and sets once they are given (own).
 use Rattle.std.specs.Prelude.{ℕ, List, map, length, Option, Some, None}
 use Rattle.hub_kinds.specs.declared.answers.SetAnswer.{SetAnswer}
-use Rattle.checked_text.specs.declared.answered.AnsweredGroup.{AnsweredGroup}
+use Rattle.set_answers.specs.declared.answered.AnsweredGroup.{AnsweredGroup}
 use Rattle.track_table.specs.declared.notes.GroupNotes.{GroupNotes}
 use Rattle.track_table.specs.declared.notes.SetNotes.{SetNotes}
 use Rattle.track_table.specs.Notes.{no_notes}

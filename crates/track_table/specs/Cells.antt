@@ -3,15 +3,15 @@ use Rattle.std.specs.Prelude.{ℕ, ◌+◌, List, [], ◌∷◌, ◌++◌, Optio
 use Rattle.std.specs.Prelude.{if◌then◌else◌}
 use Rattle.x12_bytes.specs.Header.{field_of}
 use Rattle.x12_segs.specs.Words.{element_of}
-use Rattle.x12_write.specs.Number.{padded_number}
+use Rattle.x12_write.specs.Number.{padded_number, set_number}
 use Rattle.hub_kinds.specs.Words.{fault_text, group_code_text, group_verdict_text, set_code_text, verdict_text}
 use Rattle.hub_kinds.specs.declared.interchange.InterchangeFault.{InterchangeFault}
 use Rattle.hub_kinds.specs.declared.set_codes.GroupCode.{GroupCode}
 use Rattle.hub_kinds.specs.declared.set_codes.GroupVerdict.{GroupVerdict}
 use Rattle.env_index.specs.Words.{GroupEntry}
 use Rattle.partner_setup.specs.Setup.{SetupValue}
-use Rattle.judged_text.specs.Answered.{ta1_note}
-use Rattle.judged_text.specs.Judged.{JudgedValue, PlacedValue, is_fa, segments_in, verdict_by_standing}
+use Rattle.answered_sets.specs.Answered.{ta1_note}
+use Rattle.answered_sets.specs.Judged.{JudgedValue, PlacedValue, is_fa, segments_in, verdict_by_standing}
 use Rattle.track_table.specs.declared.notes.GroupNotes.{GroupNotes}
 use Rattle.track_table.specs.declared.notes.SetNotes.{SetNotes}
 use Rattle.set_documents.specs.Documents.{DocumentValue, document_number}
@@ -83,4 +83,4 @@ held_end name h = codes "held delimiter" ∷ (hindrance_cells h ++ name ∷ [] �
 -- delivered to this receiver: ISA13, GS06 and ST02 as its mailbox has them
 abbrev pub delivered_end : (name : List ℕ) → Mailed → List (List ℕ)
 delivered_end name m =
-    codes "delivered" ∷ [] ∷ [] ∷ name ∷ padded_number 9 m.interchange ∷ decimal m.group ∷ padded_number 4 m.set ∷ []
+    codes "delivered" ∷ [] ∷ [] ∷ name ∷ padded_number 9 m.interchange ∷ decimal m.group ∷ set_number m.set ∷ []

@@ -2,13 +2,13 @@
 use Rattle.std.specs.Prelude.{ℕ, ◌+◌, List, [], ◌∷◌, Option, Some, None, find}
 use Rattle.x12_bytes.specs.declared.delims.Delims.{Delims}
 use Rattle.x12_segs.specs.Words.{SegValue}
-use Rattle.judged_text.specs.Judged.{PlacedValue, delims_in}
-use Rattle.mailbox.specs.Deliveries.{inner_in, is_in_the_way, kept_parts}
+use Rattle.answered_sets.specs.Judged.{PlacedValue, delims_in}
+use Rattle.mailbox.specs.Deliveries.{inner_in, collides, kept_parts}
 use Rattle.track_table.specs.declared.hindrance.Hindrance.{Hindrance}
 
 -- the first byte of a text that isn't a delimiter where it comes from, and one where it goes to
 abbrev pub byte_in_the_way : (from to : Delims) → List ℕ → Option ℕ
-byte_in_the_way from to text = find (is_in_the_way from to) text
+byte_in_the_way from to text = find (collides from to) text
 
 -- the one, or else the other
 abbrev pub byte_or : Option ℕ → Option ℕ → Option ℕ

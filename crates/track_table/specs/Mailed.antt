@@ -4,7 +4,7 @@ use Rattle.std.specs.Prelude.{ℕ, ◌+◌, ◌-◌, ◌/◌, ◌==◌, Bool, fa
 use Rattle.std.specs.List.{count_by}
 use Rattle.count_numbers.specs.Num.{num}
 use Rattle.partner_setup.specs.declared.partner.Partner.{Partner}
-use Rattle.judged_text.specs.Judged.{PlacedValue}
+use Rattle.answered_sets.specs.Judged.{PlacedValue}
 use Rattle.mailbox.specs.Mailbox.{group_total}
 use Rattle.track_table.specs.declared.notes.Notes.{Notes}
 use Rattle.track_table.specs.declared.mailed.Mailed.{Mailed}

@@ -2,9 +2,9 @@
 use Rattle.std.specs.Prelude.{◌≡◌, ℕ, List, map}
 use Rattle.env_index.specs.Words.{IndexEntry}
 use Rattle.partner_setup.specs.Setup.{SetupValue}
-use Rattle.judged_text.specs.Judged.{JudgedValue}
-use Rattle.checked_text.specs.Acknowledgments.{has_reports}
-use Rattle.checked_text.specs.CheckedText.{AreCheckedAs, CheckedInterchange, IsCheckedAs, acknowledgment_of, judged, recipient_of}
+use Rattle.answered_sets.specs.Judged.{JudgedValue}
+use Rattle.set_answers.specs.Acknowledgments.{has_reports}
+use Rattle.set_answers.specs.CheckedText.{AreCheckedAs, CheckedInterchange, IsCheckedAs, acknowledgment_of, judged, recipient_of}
 use Rattle.track_table.specs.AnswerNotes.{notes_by}
 use Rattle.track_table.specs.declared.notes.Notes.{Notes}
 

@@ -5,7 +5,7 @@ use Rattle.std.specs.Prelude.{if◌then◌else◌}
 use Rattle.env_index.specs.Words.{GroupEntry}
 use Rattle.partner_setup.specs.declared.partner.Partner.{Partner}
 use Rattle.partner_setup.specs.Setup.{SetupValue}
-use Rattle.judged_text.specs.Judged.{JudgedValue, PlacedValue, is_fa, is_refused, sets_from, sets_of, standing_at}
+use Rattle.answered_sets.specs.Judged.{JudgedValue, PlacedValue, is_fa, is_refused, sets_from, sets_of, standing_at}
 use Rattle.mailbox.specs.declared.outcome.Outcome.{Outcome}
 use Rattle.mailbox.specs.declared.outcome.Outcome.TheVariants.{DeliveredTo, HeldForDelimiter, HeldForRoute}
 use Rattle.mailbox.specs.Deliveries.{is_deliverable, is_delivered_to, outcomes}

@@ -2,10 +2,10 @@
 use Rattle.std.specs.Prelude.{◌≡◌, ℕ, List, map}
 use Rattle.env_index.specs.Words.{IndexValue}
 use Rattle.partner_setup.specs.Setup.{SetupValue}
-use Rattle.checked_text.specs.CheckedText.{AreCheckedAs, CheckedInterchange}
+use Rattle.set_answers.specs.CheckedText.{AreCheckedAs, CheckedInterchange}
 use Rattle.night_report.specs.Clean.{is_clean}
 use Rattle.night_report.specs.Report.{report_text}
-use Rattle.night_writing.specs.Night.{IsKnown, judgements}
+use Rattle.night_batches.specs.Night.{IsKnown, judgements}
 use Rattle.set_documents.specs.Documents.{DocumentValue}
 use Rattle.track_table.specs.Noted.{notes_of}
 use Rattle.track_table.specs.Rows.{TrackedBy, track_text}

@@ -6,7 +6,7 @@ use Rattle.count_numbers.specs.Num.{num}
 use Rattle.count_numbers.specs.Runs.{same_key}
 use Rattle.count_numbers.specs.declared.run.RunKey.{RunKey}
 use Rattle.partner_setup.specs.declared.partner.Partner.{Partner}
-use Rattle.judged_text.specs.Judged.{PlacedValue}
+use Rattle.answered_sets.specs.Judged.{PlacedValue}
 use Rattle.mailbox.specs.Delivering.{is_sent_by, one_where}
 use Rattle.mailbox.specs.Mailbox.{group_total}
 use Rattle.mailbox.specs.Numbered.{group_key_of}

@@ -2,8 +2,8 @@ ghost use Rattle.std.specs.Prelude.{◌≡◌, IfOk, map};
 ghost use Rattle.track_table.specs.AnswerNotes.{notes_by, notes_of, notes_of_set};
 
 use crate::notes::{GroupNotes, SetNotes};
-use checked_text::AnsweredGroup;
 use hub_kinds::{Items, NoMemory, SetAnswer};
+use set_answers::AnsweredGroup;
 use std::alloc::Global;
 
 /// What is kept of the answers to groups, in their order.
@@ -55,7 +55,7 @@ fn notes_of_sets(alloc: Global, sets: Vec<SetAnswer<'_>>) -> Result<Items<SetNot
 fn notes_of_set(answer: SetAnswer<'_>) -> SetNotes
     ensures { result ≡ notes_of_set answer.entry }
 {
-    let faults = answer.faults.as_slice().len() as u64;
+    let faults = answer.faults.len() as u64;
     SetNotes {
         codes: answer.codes,
         faults,

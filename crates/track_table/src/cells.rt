@@ -1,18 +1,18 @@
 ghost use Rattle.std.specs.Prelude.{◌≡◌, ◌++◌, ◌∷◌, [], IfOk, OnOk, decimal, drop, map, slice_index_or, take};
 ghost use Rattle.x12_segs.specs.Words.{element_of};
-ghost use Rattle.judged_text.specs.Answered.{ta1_note};
-ghost use Rattle.judged_text.specs.Judged.{segments_in};
+ghost use Rattle.answered_sets.specs.Answered.{ta1_note};
+ghost use Rattle.answered_sets.specs.Judged.{segments_in};
 ghost use Rattle.track_table.specs.Cells as cells;
 ghost use Rattle.csv_fields.specs.Csv.{cells_text, fields_text};
 ghost use Rattle.set_documents.specs.Documents.{document_number};
 
 use crate::limits::MOST_SHOWN;
 use crate::notes::GroupNotes;
+use answered_sets::{JudgedInterchange, PlacedSet, is_fa, ta1_note};
 use csv_fields::{append_field, append_fields};
 use env_index::GroupEnvelope;
 use hub_kinds::{Code, GroupCode, GroupVerdict, InterchangeFault, NoMemory, SetCode, code_text};
 use itoa::Buffer;
-use judged_text::{JudgedInterchange, PlacedSet, is_fa, ta1_note};
 use night_report::sender_name;
 use partner_setup::Setup;
 use set_documents::{Document, document_number};

@@ -3,9 +3,9 @@ ghost use Rattle.mailbox.specs.Numbered.{group_key_of};
 ghost use Rattle.track_table.specs.Walking.{goes_with};
 
 use crate::mailed::Mailed;
+use answered_sets::PlacedSet;
 use count_numbers::num;
 use hub_kinds::NoMemory;
-use judged_text::PlacedSet;
 use std::marker::Model;
 
 /// What the sets of a group of a mailbox have in common (X12.6): the sender's place, GS01 and GS08.

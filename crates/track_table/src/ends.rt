@@ -1,6 +1,6 @@
 ghost use Rattle.std.specs.Prelude.{◌≡◌, ◌==◌, ◌<◌, ◌++◌, ◌∷◌, [], ℕ, List, OnOk, codes, false, length, slice_get};
 ghost use Rattle.std.specs.List.{list_any};
-ghost use Rattle.judged_text.specs.Judged.{PlacedValue};
+ghost use Rattle.answered_sets.specs.Judged.{PlacedValue};
 ghost use Rattle.mailbox.specs.Deliveries.{outcome_at};
 ghost use Rattle.mailbox.specs.declared.outcome.Outcome.TheVariants.{DeliveredTo};
 ghost use Rattle.track_table.specs.Cells as cells;
@@ -12,10 +12,10 @@ use crate::cursor::{Cursor, key_of};
 use crate::hindrance::{Hindrance, hindrance_to};
 use crate::mailed::Mailed;
 use crate::tracking::Tracking;
+use answered_sets::PlacedSet;
 use csv_fields::{append_end, append_fields};
 use hub_kinds::NoMemory;
 use itoa::Buffer;
-use judged_text::PlacedSet;
 use mailbox::{Outcome, outcome_at};
 use x12_write::PaddedNumber;
 
@@ -67,7 +67,7 @@ fn append_delivered(out: &mut Vec<u8>, name: &[u8], mailed: Mailed) -> Result<()
     let outcome: &[u8] = b"delivered";
     let interchange = PaddedNumber::new(mailed.interchange, 9);
     let mut group = Buffer::new();
-    let set = PaddedNumber::new(mailed.set, 4);
+    let set = PaddedNumber::of_set(mailed.set);
     append_fields(
         out,
         &[

@@ -2,8 +2,8 @@ ghost use Rattle.std.specs.Prelude.{◌≡◌, ◌-◌, is_some, take, if◌then
 ghost use Rattle.mailbox.specs.Deliveries as deliveries;
 ghost use Rattle.track_table.specs.Hindrance as hindrance;
 
+use answered_sets::PlacedSet;
 use env_index::SetEnvelope;
-use judged_text::PlacedSet;
 use x12_bytes::Delims;
 use x12_segs::{Parts, SegView, Segments};
 use x12_write::is_delimiter;
@@ -17,8 +17,8 @@ pub struct Hindrance {
     pub before: u64,
 }
 
-fn is_in_the_way(from: &Delims, to: &Delims, byte: u8) -> bool
-    ensures { result ≡ deliveries.is_in_the_way from.now to.now byte }
+fn collides(from: &Delims, to: &Delims, byte: u8) -> bool
+    ensures { result ≡ deliveries.collides from.now to.now byte }
 {
     !is_delimiter(from, byte) && is_delimiter(to, byte)
 }
@@ -28,7 +28,7 @@ fn byte_in_the_way(from: &Delims, to: &Delims, text: &[u8]) -> Option<u8>
     ensures { result ≡ hindrance.byte_in_the_way from.now to.now text.now }
 {
     for byte in text {
-        if is_in_the_way(from, to, *byte) {
+        if collides(from, to, *byte) {
             return Some(*byte);
         }
     }

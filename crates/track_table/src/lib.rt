@@ -6,7 +6,7 @@
 //! Proved:
 //! - `track_plain` gives the table of the definition, byte for byte, for every text and setup, and whether the night is clean;
 //! - `track_text` gives that table by the interchanges of a night and what is kept of their answers;
-//! - `note_text` keeps of each interchange just that of its one answer, as `checked_text` defines it (`night_law::answers_are_one`).
+//! - `note_text` keeps of each interchange just that of its one answer, as `set_answers` defines it (`night_law::answers_are_one`).
 //!
 //! Numbers of mailboxes are those of the mailbox's own definition (`mailbox`): a tally gives the first numbers of a partner, and not which
 //! group a set is in.

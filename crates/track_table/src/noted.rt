@@ -1,17 +1,17 @@
 ghost use Rattle.std.specs.Prelude.{◌≡◌, ◌||◌, IfOk, None, if◌then◌else◌};
 ghost use Rattle.std.specs.List.{All};
 ghost use Rattle.env_index.specs.Words.{HasSpans};
-ghost use Rattle.checked_text.specs.Acknowledgments.{has_any, present};
-ghost use Rattle.checked_text.specs.CheckedText.{CheckedInterchange};
+ghost use Rattle.set_answers.specs.Acknowledgments.{has_any, present};
+ghost use Rattle.set_answers.specs.CheckedText.{CheckedInterchange};
 ghost use Rattle.track_table.specs.Noted.{AreNoted, IsNoted, notes_of};
 
 use crate::answer_notes::all_notes;
 use crate::notes::Notes;
-use checked_text::{AnsweredGroup, answers_to, judge};
+use answered_sets::{JudgedInterchange, ta1_note};
 use env_index::{Index, IndexedInterchange};
 use hub_kinds::NoMemory;
-use judged_text::{JudgedInterchange, ta1_note};
 use partner_setup::Setup;
+use set_answers::{AnsweredGroup, answers_to, judge};
 use std::alloc::Global;
 
 /// A text once its sets are checked.

@@ -1,6 +1,6 @@
 ghost use Rattle.std.specs.Prelude.{◌≡◌, ◌<◌, ◌++◌, ◌∷◌, [], List, Some, IfOk, OnOk, length, slice_get, slice_index_or};
 ghost use Rattle.env_index.specs.Words.{GroupEntry};
-ghost use Rattle.judged_text.specs.Judged.{PlacedValue, sets_of};
+ghost use Rattle.answered_sets.specs.Judged.{PlacedValue, sets_of};
 ghost use Rattle.partner_setup.specs.Setup.{route_of};
 ghost use Rattle.partner_setup.specs.Sound.{AreApart, AreWithin};
 ghost use Rattle.x12_segs.specs.Words.{element_of};
@@ -14,10 +14,10 @@ use crate::cursor::Cursor;
 use crate::ends::{append_plain, append_row};
 use crate::notes::{GroupNotes, Notes};
 use crate::tracking::Tracking;
+use answered_sets::{JudgedInterchange, PlacedSet, is_fa, is_refused};
 use csv_fields::{append_end, append_fields};
 use env_index::GroupEnvelope;
 use hub_kinds::{GroupVerdict, NoMemory};
-use judged_text::{JudgedInterchange, PlacedSet, is_fa, is_refused};
 use mailbox::is_deliverable;
 use night_report::verdict_at;
 

@@ -6,11 +6,11 @@ ghost use Rattle.track_table.specs.Track.{IsTrack, IsTrackIn};
 
 use crate::noted::note_text;
 use crate::table::track_text;
-use checked_text::settled_faults;
 use env_index::{Index, index_plain};
 use hub_kinds::{NoMemory, Text};
 use night_report::{is_clean, report_text};
 use partner_setup::Setup;
+use set_answers::settled_faults;
 use set_documents::Document;
 use std::alloc::Global;
 

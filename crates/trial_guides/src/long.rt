@@ -3,7 +3,7 @@ use super::placings::NOTICE;
 use super::rows::{Row, guide_of};
 use super::slots::DELIMS;
 use guide_tree::Guide;
-use hub_kinds::Fault;
+use hub_kinds::Faults;
 use loop_match::place_all;
 use std::alloc::Global;
 use std::test::Fail;
@@ -21,16 +21,16 @@ const LONG: &[Long] = &[
     ("BSN~HL~REF*IA~REF*IA~", "N1~N4~", 10_000, 10_000, 20_006),
 ];
 
-fn last_position(faults: &[Fault]) -> u64 {
-    match faults.last() {
-        None => 0,
-        Some(fault) => fault.position,
+fn last_position(faults: &Faults) -> u64 {
+    if faults.is_empty() {
+        return 0;
     }
+    faults.head(faults.len() - 1).position
 }
 
 fn counted_in(alloc: Global, guide: &Guide, segs: &[SegView]) -> Result<(usize, u64), Fail> {
     let faults = place_all(alloc, segs, guide)?.into_faults();
-    Ok((faults.as_slice().len(), last_position(faults.as_slice())))
+    Ok((faults.len(), last_position(&faults)))
 }
 
 /// How many faults a body has, and the position of the last.

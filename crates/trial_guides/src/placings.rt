@@ -33,8 +33,9 @@ fn add_fault(out: &mut Vec<u8>, alloc: Global, fault: &Fault) -> Result<(), Fail
 }
 
 fn add_faults(out: &mut Vec<u8>, alloc: Global, placing: &Placing) -> Result<(), Fail> {
-    for fault in placing.faults() {
-        add_fault(out, alloc, fault)?;
+    let faults = placing.faults();
+    for i in 0..faults.len() {
+        add_fault(out, alloc, &faults.at(i))?;
     }
     Ok(())
 }

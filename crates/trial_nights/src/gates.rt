@@ -1,6 +1,6 @@
 //! That workers do the work of a night together, and of a stream before more of it is read.
 use crate::pieces::ORDER_IN_ITS_INTERCHANGE;
-use crate::setups::{FIRST, two_partners};
+use crate::setups::two_partners;
 use cut_plan::Cuts;
 use hub_run::{Gate, Source, SourceFault, run_night, run_stream};
 use moment::At;
@@ -109,7 +109,7 @@ fn two_orders(alloc: Global) -> Result<Vec<u8>, Fail> {
 #[test]
 fn two_workers_come_together_in_each_phase(rt: HostRuntime) -> Result<(), Fail> {
     let alloc = rt.alloc();
-    let setup = two_partners(alloc, &FIRST)?;
+    let setup = two_partners(alloc)?;
     let at = At::read(b"202603011530").ok_or("no moment")?;
     let text = two_orders(alloc)?;
     let cuts = Cuts::every(alloc, text.len(), 236)?;
@@ -139,7 +139,7 @@ fn two_workers_come_together_in_each_phase(rt: HostRuntime) -> Result<(), Fail> 
 #[test]
 fn a_window_is_worked_on_before_the_next_is_read(rt: HostRuntime) -> Result<(), Fail> {
     let alloc = rt.alloc();
-    let setup = two_partners(alloc, &FIRST)?;
+    let setup = two_partners(alloc)?;
     let at = At::read(b"202603011530").ok_or("no moment")?;
     let text = two_orders(alloc)?;
     let reads = AtomicU64::new(0);

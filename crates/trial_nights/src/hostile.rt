@@ -2,7 +2,7 @@
 use super::night::text_of;
 use super::pieces::{FROM_ACME, ORDER_IN_ITS_INTERCHANGE};
 use super::runs::{plain_night, shared_night, stream_night};
-use super::setups::{FIRST, two_partners};
+use super::setups::two_partners;
 use hub_kinds::{Counters, Text};
 use hub_run::{Night, OpenGate, RunFault, run_stream};
 use mailbox::Woven;
@@ -96,7 +96,7 @@ fn repeated(alloc: Global, word: &[u8], times: u32) -> Result<Vec<u8>, AllocErro
 
 #[test]
 fn an_order_cut_off_at_each_byte(rt: HostRuntime) -> Result<(), Fail> {
-    let setup = two_partners(rt.alloc(), &FIRST)?;
+    let setup = two_partners(rt.alloc())?;
     for end in 0..ORDER_IN_ITS_INTERCHANGE.len() {
         expect_one_night(&rt, &setup, &ORDER_IN_ITS_INTERCHANGE[..end], 1)?;
     }
@@ -105,14 +105,14 @@ fn an_order_cut_off_at_each_byte(rt: HostRuntime) -> Result<(), Fail> {
 
 #[test]
 fn a_header_64_times(rt: HostRuntime) -> Result<(), Fail> {
-    let setup = two_partners(rt.alloc(), &FIRST)?;
+    let setup = two_partners(rt.alloc())?;
     let text = repeated(rt.alloc(), FROM_ACME, 64)?;
     expect_one_night(&rt, &setup, text.as_slice(), 1)
 }
 
 #[test]
 fn the_first_word_of_a_header_100_000_times(rt: HostRuntime) -> Result<(), Fail> {
-    let setup = two_partners(rt.alloc(), &FIRST)?;
+    let setup = two_partners(rt.alloc())?;
     let text = repeated(rt.alloc(), b"ISA", 100_000)?;
     let night = plain_night(rt.alloc(), &setup, text.as_slice())?;
     assert!(rt;
@@ -131,7 +131,7 @@ fn expect_read<S: Source, R: AllocGlobal + Threads + Wait + Clock + Sync>(
     reads: bool,
 ) -> Result<(), Fail> {
     let alloc = rt.alloc();
-    let setup = two_partners(alloc, &FIRST)?;
+    let setup = two_partners(alloc)?;
     let at = At::read(b"202603011530").ok_or("no moment")?;
     let wanted = plain_night(alloc, &setup, ORDER_IN_ITS_INTERCHANGE)?;
     match run_stream(rt, alloc, source, 53, 53, &setup, &at, 2, &OpenGate) {

@@ -10,9 +10,6 @@ use std::thread::Threads;
 use std::time::Clock;
 use trial_streams::sources::Memory;
 
-/// How many workers share a text, and how many bytes its pieces have; the last is one piece.
-pub const SHARED: &[(u64, usize)] = &[(1, 1), (2, 53), (7, 106), (64, 53), (2, 4_294_967_295)];
-
 /// In which windows a text is read as a stream, by how many workers, and how many bytes its pieces have.
 pub const STREAMS: &[(usize, u64, usize)] = &[
     (1, 1, 53),

@@ -2,7 +2,7 @@
 use Rattle.std.proofs.Common.{◌≡◌, ◌+◌, ◌∙◌, ℕ, List, [], ◌∷◌, length, refl, ap, suc}
 use Rattle.std.proofs.lemmas.List.{length-map}
 use Rattle.partner_setup.specs.Setup.{SetupValue}
-use Rattle.night_writing.specs.declared.night.Night.{Night}
+use Rattle.night_batches.specs.declared.night.Night.{Night}
 use Rattle.night_definition.specs.Elements.{numbered}
 use Rattle.night_definition.specs.Night as room
 use Rattle.night_definition.specs.ReadBack as defined

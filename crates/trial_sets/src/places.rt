@@ -1,7 +1,7 @@
 //! The places of an order's segments by the compiled guide of orders.
 use super::compiled::{DELIMS, guide_of};
 use guide_fast::{FastGuide, place_all_fast};
-use hub_kinds::{Fault, SegmentCode};
+use hub_kinds::{Faults, SegmentCode};
 use std::alloc::Global;
 use std::test::Fail;
 use trial_guides::house::H850;
@@ -30,11 +30,12 @@ fn body<'a>(alloc: Global) -> Result<Vec<SegView<'a>>, Fail> {
 }
 
 /// Whether the one fault is that of the segment without a place, the seventh after ST.
-fn is_that_of_the_stray(faults: &[Fault]) -> bool {
-    match faults {
-        [fault] => fault.position == 8 && fault.code == SegmentCode::UnrecognizedSegment,
-        _ => false,
+fn is_that_of_the_stray(faults: &Faults) -> bool {
+    if faults.len() != 1 {
+        return false;
     }
+    let head = faults.head(0);
+    head.position == 8 && head.code == SegmentCode::UnrecognizedSegment
 }
 
 #[test]

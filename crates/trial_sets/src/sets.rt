@@ -7,7 +7,7 @@ use super::guides::guide_of;
 use env_index::{GroupEnvelope, Interchange, read_interchange};
 use guide_fast::FastGuide;
 use guide_tree::Guide;
-use hub_kinds::{ElemFault, Fault, SetCode, code_text, within_limit};
+use hub_kinds::{ElemFault, Fault, Faults, SetCode, code_text, within_limit};
 use set_check::{CheckedSet, check_set, check_set_fast};
 use std::alloc::Global;
 use std::test::Fail;
@@ -56,9 +56,9 @@ fn add_fault(out: &mut Vec<u8>, alloc: Global, fault: &Fault) -> Result<(), Fail
     }
 }
 
-fn add_faults(out: &mut Vec<u8>, alloc: Global, faults: &[Fault]) -> Result<(), Fail> {
-    for fault in faults {
-        add_fault(out, alloc, fault)?;
+fn add_faults(out: &mut Vec<u8>, alloc: Global, faults: &Faults) -> Result<(), Fail> {
+    for i in 0..faults.len() {
+        add_fault(out, alloc, &faults.at(i))?;
     }
     Ok(())
 }

@@ -1,8 +1,8 @@
 //! Beginnings of a header.
 use crate::texts::{ORDER, TWO_ORDERS};
-use batch_cut::may_begin;
 use std::alloc::Global;
 use std::test::Fail;
+use whole_interchanges::may_begin;
 
 /// What a text begins with, and whether a header may.
 const CASES: &[(&[u8], bool)] = &[

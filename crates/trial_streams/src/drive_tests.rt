@@ -1,12 +1,12 @@
 use crate::drive::{Drive, Form, Log, Step};
 use hub_kinds::Lent;
-use night_ends::{Directory, Outbox, Reader, in_one_line};
 use std::alloc::Global;
 use std::io;
 use std::io::{ErrorKind, Read};
 use std::sync::atomic::Ordering;
 use std::test::Fail;
 use stream_read::{Source, SourceFault};
+use system_io::{Directory, Outbox, Reader, in_one_line};
 
 const NAME: &[u8] = b"ACME.ack";
 

@@ -1,7 +1,7 @@
 //! The trial of streams and of the program's two ends to the system: up to where interchanges are whole in what is read of a text
-//! (batch_cut), byte by byte and window by window; the reader of a stream (stream_read) over sources that are interrupted and that fail
-//! (`sources`); and (night_ends) readers that fail, and a drive whose calls fail in turn, and which reports what was closed before it was
-//! kept (`drive`). It has no code of the program.
+//! (whole_interchanges), byte by byte and window by window; the reader of a stream (stream_read) over sources that are interrupted and that
+//! fail (`sources`); and (system_io) readers that fail, and a drive whose calls fail in turn, and which reports what was closed before
+//! it was kept (`drive`). It has no code of the program.
 //!
 //! X12.5, interchange control header and trailer, and interchange; the ends are own.
 #![tactic(auto)]

@@ -1,5 +1,5 @@
 //! Texts, and what is seen of them.
-use batch_cut::{Advanced, Scout, advance};
+use whole_interchanges::{Advanced, Scout, advance};
 
 pub const ORDER: &[u8] =
     b"ISA*00*          *00*          *01*ACME           *ZZ*HUB            *260228*0900*^*00501*000000007*0*P*>~\

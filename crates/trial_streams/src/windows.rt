@@ -3,10 +3,10 @@ ghost use Rattle.std.specs.Prelude.{◌<◌};
 
 use crate::sources::Memory;
 use crate::texts::{ORDER, TWO_ORDERS, WITHOUT_TRAILER};
-use batch_cut::{Scout, advance, forget};
 use std::alloc::Global;
 use std::test::Fail;
 use stream_read::Held;
+use whole_interchanges::{Scout, advance, forget};
 
 /// Where those batches end in which an interchange is whole, where a text is read in windows of this many bytes.
 fn ends(alloc: Global, text: &[u8], window: usize) -> Result<Vec<usize>, Fail>

@@ -1,11 +1,11 @@
 //! A file that is put at its place, on a drive of which each call fails in turn.
 use crate::drive::{BESIDE, Drive, Log, PLACE, Step};
 use hub_kinds::Lent;
-use night_ends::Outbox;
 use std::alloc::Global;
 use std::io::ErrorKind;
 use std::sync::atomic::Ordering;
 use std::test::Fail;
+use system_io::Outbox;
 use track_command::{Places, TrackFailure, is_free};
 
 /// More than one write takes.

@@ -2,13 +2,13 @@
 use crate::examples::{COUNTERS, GUIDE, IN, NAMES, ROWS, SETUP};
 use hub_kinds::{Items, Lent};
 use night_command::{Failure, FileAt, Reader, SetupFiles, read_at, setup_of};
-use night_ends::{Created, Outbox, Written, create_at, open_at, write_and_sync};
 use partner_setup::Setup;
 use set_documents::{Document, documents_given};
 use std::alloc::{AllocError, Global};
 use std::io;
 use std::io::{ErrorKind, Read};
 use std::test::Fail;
+use system_io::{Created, Outbox, Written, create_at, open_at, write_and_sync};
 use track_command::track_in;
 use trial_streams::drive::{Drive, Log, Sheet};
 use trial_streams::parts::joined;

@@ -35,12 +35,12 @@ impl Checks for Brand {
 
 // An answer to one of the jobs that N names. Contracts see its number.
 #[derive(Drop)]
-struct NamedCheck<K: PlaceJob, N: Checks> {
+struct BrandedCheck<K: PlaceJob, N: Checks> {
     done: K::Done,
     of: PhantomData<N>,
 }
 
-impl<K: PlaceJob, N: Checks> Model for NamedCheck<K, N> {
+impl<K: PlaceJob, N: Checks> Model for BrandedCheck<K, N> {
     ghost use Rattle.std.specs.Prelude.{◌≡◌, ℕ, Some, slice_get};
 
     ghost Value = { ℕ };
@@ -92,7 +92,7 @@ impl<
 > Task for Checking<'t, 'i, 'a, J, K, G, N> {
     type Own = Share<J>;
 
-    type Done = NamedCheck<K, N>;
+    type Done = BrandedCheck<K, N>;
 
     ghost count = { λ t. t };
 
@@ -103,7 +103,7 @@ impl<
         rt: &R,
         own: &mut Share<J>,
         number: u64,
-    ) -> Result<NamedCheck<K, N>, AllocError> {
+    ) -> Result<BrandedCheck<K, N>, AllocError> {
         self.gate.enter(rt, number);
         let job = job_at::<K>(self.jobs, number);
         let Ok(recorded) = self.lock.record_locked(rt, own, job.place()) else {
@@ -113,21 +113,21 @@ impl<
             return Err(AllocError);
         };
         self.gate.answered(rt, number, &done);
-        Ok(NamedCheck {
+        Ok(BrandedCheck {
             done,
             of: PhantomData,
         })
     }
 
-    fn number(named: &NamedCheck<K, N>) -> u64 {
+    fn number(named: &BrandedCheck<K, N>) -> u64 {
         K::number(&named.done)
     }
 }
 
 // The answers in the order of their jobs, without the name.
-fn without_name<K: PlaceJob, N: Checks>(
+fn check_unbranded<K: PlaceJob, N: Checks>(
     alloc: Global,
-    list: Vec<NamedCheck<K, N>>,
+    list: Vec<BrandedCheck<K, N>>,
 ) -> Result<Vec<K::Done>, PoolFault>
     requires { list.items ≡ numbers_from 0 (length N.jobs) }
     ensures done { IfOk result (λ v. map K.answers v.items ≡ N.jobs) }
@@ -135,7 +135,7 @@ fn without_name<K: PlaceJob, N: Checks>(
 {
     let mut all = Vec::new(alloc);
     for named in list {
-        let NamedCheck { done, .. } = named;
+        let BrandedCheck { done, .. } = named;
         let Ok(()) = all.push(done) else {
             return Err(PoolFault::NoMemory);
         };
@@ -176,7 +176,7 @@ struct Answered<'i, 'a, K: PlaceJob> {
     records: Records<'i, 'a>,
 }
 
-fn checks_named<
+fn checks_branded<
     'i,
     'a,
     J: Named + Send + Sync,
@@ -219,7 +219,7 @@ fn checks_named<
         shares,
         workers,
     )?;
-    let done = without_name::<K, N>(alloc, done)?;
+    let done = check_unbranded::<K, N>(alloc, done)?;
     Ok(Answered {
         seat,
         done,
@@ -264,7 +264,7 @@ pub fn run_checks<
         seat,
         done,
         records,
-    } = checks_named::<J, CheckJob<'f, 'g, 'a>, Brand, G, R>(
+    } = checks_branded::<J, CheckJob<'f, 'g, 'a>, Brand, G, R>(
         rt, alloc, jobs, register, shares, workers, gate,
     )?;
     Ok(Checked {

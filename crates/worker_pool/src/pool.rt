@@ -26,12 +26,12 @@ impl<A> Jobs<A> for Brand {
 
 // An answer to one of the jobs that N names. Contracts see its number.
 #[derive(Drop)]
-struct NamedDone<J: Job, N: Jobs<J::Asked>> {
+struct BrandedDone<J: Job, N: Jobs<J::Asked>> {
     done: J::Done,
     of: PhantomData<N>,
 }
 
-impl<J: Job, N: Jobs<J::Asked>> Model for NamedDone<J, N> {
+impl<J: Job, N: Jobs<J::Asked>> Model for BrandedDone<J, N> {
     ghost use Rattle.std.specs.Prelude.{◌≡◌, ℕ, Some, slice_get};
 
     ghost Value = { ℕ };
@@ -65,7 +65,7 @@ impl<'t, J: Job + Sync, G: Gate + Sync, N: Jobs<J::Asked> + Send + Sync> Task
     for Working<'t, J, G, N> {
     type Own = u64;
 
-    type Done = NamedDone<J, N>;
+    type Done = BrandedDone<J, N>;
 
     ghost count = { λ t. t };
 
@@ -76,34 +76,34 @@ impl<'t, J: Job + Sync, G: Gate + Sync, N: Jobs<J::Asked> + Send + Sync> Task
         rt: &R,
         _own: &mut u64,
         number: u64,
-    ) -> Result<NamedDone<J, N>, AllocError> {
+    ) -> Result<BrandedDone<J, N>, AllocError> {
         self.gate.enter(rt, number);
         let Ok(done) = self.jobs[number as usize].run(self.alloc, number) else {
             return Err(AllocError);
         };
         self.gate.answered(rt, number, &done);
-        Ok(NamedDone {
+        Ok(BrandedDone {
             done,
             of: PhantomData,
         })
     }
 
-    fn number(named: &NamedDone<J, N>) -> u64 {
+    fn number(named: &BrandedDone<J, N>) -> u64 {
         J::number(&named.done)
     }
 }
 
 // The answers in the order of their jobs, without the name.
-fn unnamed<J: Job, N: Jobs<J::Asked>>(
+fn job_unbranded<J: Job, N: Jobs<J::Asked>>(
     alloc: Global,
-    list: Vec<NamedDone<J, N>>,
+    list: Vec<BrandedDone<J, N>>,
 ) -> Result<Vec<J::Done>, PoolFault>
     requires { list.items ≡ numbers_from 0 (length N.jobs) }
     ensures { IfOk result (λ v. map J.job_of v.items ≡ N.jobs) }
 {
     let mut all = Vec::new(alloc);
     for named in list {
-        let NamedDone { done, .. } = named;
+        let BrandedDone { done, .. } = named;
         let Ok(()) = all.push(done) else {
             return Err(PoolFault::NoMemory);
         };
@@ -122,7 +122,7 @@ fn bare(alloc: Global, workers: u64) -> Result<Vec<u64>, AllocError>
     Ok(owns)
 }
 
-fn jobs_named<
+fn jobs_branded<
     J: Job + Sync,
     N: Jobs<J::Asked> + Send + Sync,
     G: Gate + Sync,
@@ -151,7 +151,7 @@ fn jobs_named<
         owns,
         workers,
     )?;
-    unnamed::<J, N>(alloc, done)
+    job_unbranded::<J, N>(alloc, done)
 }
 
 /// Does jobs, each once, by this many workers, each but one in a separate thread: at most 2 ^ 62 jobs, 1 to 64 workers. It gives an
@@ -168,5 +168,5 @@ pub fn run_jobs<J: Job + Sync, G: Gate + Sync, R: Threads + Wait + Clock + Sync>
     requires workers { (1 ≤ workers) × (workers ≤ 64) }
     ensures { IfOk result (λ v. map J.job_of v.items ≡ map J.value jobs.now) }
 {
-    jobs_named::<J, Brand, G, R>(rt, alloc, jobs, workers, gate)
+    jobs_branded::<J, Brand, G, R>(rt, alloc, jobs, workers, gate)
 }

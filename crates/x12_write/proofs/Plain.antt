@@ -10,7 +10,7 @@ use Rattle.std.proofs.lemmas.Grind.{common_steps}
 use Rattle.std.proofs.lemmas.List.Folds.{list_all-append}
 use Rattle.std.proofs.lemmas.List.Elements.{All-nil, All-cons}
 use Rattle.x12_bytes.specs.declared.delims.Delims.{Delims}
-use Rattle.x12_write.specs.Number.{padded_number}
+use Rattle.x12_write.specs.Number.{padded_number, set_number}
 use Rattle.x12_write.specs.Undivided.{CanDivide, IsUndivided}
 
 -- letters and digits alone
@@ -72,3 +72,6 @@ decimal-undivided d can n = plain-undivided d can (decimal n) (plain-decimal n)
 
 pub padded_number-undivided : (d : Delims) → CanDivide d → (least n : ℕ) → IsUndivided d (padded_number least n)
 padded_number-undivided d can least n = plain-undivided d can (padded_number least n) (plain-padded_number least n)
+
+pub set_number-undivided : (d : Delims) → CanDivide d → (n : ℕ) → IsUndivided d (set_number n)
+set_number-undivided d can n = padded_number-undivided d can 4 n

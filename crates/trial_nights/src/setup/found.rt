@@ -4,14 +4,11 @@ ghost use Rattle.std.specs.Prelude.{◌≡◌, ◌∷◌, [], None, Some, false,
 ghost use Rattle.std.specs.List.{All, AllZip};
 ghost use Rattle.std.specs.Option.{option_copied};
 ghost use Rattle.std.specs.Str.{bytes_eq};
-ghost use Rattle.checked_text.specs.Asked.{IsFound, asked_of};
+ghost use Rattle.set_answers.specs.Asked.{IsFound, asked_of};
 ghost use Rattle.env_index.specs.Words.{HasSpans};
 ghost use Rattle.x12_segs.specs.Words.{IsSetSpan, element_of};
 
 use super::built::example;
-use checked_text::{
-    CheckedText, Finding, answer_found, check_text, no_acknowledgments, settled_faults,
-};
 use env_index::{Index, SetEnvelope, index_plain};
 use guide_tree::Guide;
 use hub_kinds::{NoMemory, within_limit};
@@ -19,6 +16,9 @@ use job_pool::OneThread;
 use moment::At;
 use night_report::report_text;
 use partner_setup::Setup;
+use set_answers::{
+    CheckedText, Finding, answer_found, check_text, no_acknowledgments, settled_faults,
+};
 use set_check::check_set;
 use std::alloc::Global;
 use std::test::Fail;

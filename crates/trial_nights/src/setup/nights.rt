@@ -4,15 +4,15 @@ ghost use Rattle.env_index.specs.Words.{HasSpans};
 
 use super::built::example;
 use crate::night::text_of;
-use checked_text::{CheckedText, check_text, no_acknowledgments, settled_faults};
+use answered_sets::{JudgedInterchange, PlacedSet};
 use env_index::{Index, index_plain};
 use hub_kinds::within_limit;
 use job_pool::OneThread;
-use judged_text::{JudgedInterchange, PlacedSet};
 use mailbox::{Mailbox, assemble};
 use moment::At;
 use night_report::{is_clean, report_text};
 use partner_setup::Setup;
+use set_answers::{CheckedText, check_text, no_acknowledgments, settled_faults};
 use std::alloc::Global;
 use std::test::Fail;
 

@@ -1,8 +1,8 @@
 //! Groups and sets that are answered, as rows that own no memory.
 use ack_999::write_999;
 use hub_kinds::{
-    ElemFault, ElementCode, Fault, GroupAnswer, GroupCode, GroupVerdict, Items, Lent, NoMemory,
-    SegmentCode, SetAnswer, SetCode, Verdict,
+    ElemFault, ElementCode, Fault, Faults, GroupAnswer, GroupCode, GroupVerdict, Items, Lent,
+    NoMemory, SegmentCode, SetAnswer, SetCode, Verdict,
 };
 use std::alloc::Global;
 use x12_bytes::Delims;
@@ -82,12 +82,12 @@ fn fault<'a>(row: &FaultRow<'a>) -> Fault<'a> {
     }
 }
 
-fn faults<'a>(alloc: Global, rows: &[FaultRow<'a>]) -> Result<Items<Fault<'a>>, NoMemory> {
-    let mut faults = Vec::new(alloc);
+fn faults<'a>(alloc: Global, rows: &[FaultRow<'a>]) -> Result<Faults<'a>, NoMemory> {
+    let mut faults = Faults::new(alloc);
     for row in rows {
         faults.push(fault(row))?;
     }
-    Ok(Items::from_vec(faults))
+    Ok(faults)
 }
 
 pub fn set<'a>(alloc: Global, row: &SetRow<'a>) -> Result<SetAnswer<'a>, NoMemory> {

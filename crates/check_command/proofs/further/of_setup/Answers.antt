@@ -1,7 +1,7 @@
 use Rattle.std.proofs.Common.{ℕ, List, subst}
 use Rattle.partner_setup.specs.SetupFile.{setup_of_table}
-use Rattle.key_words.specs.KeysSaid.{setup_keys_said}
-use Rattle.refusal_words.specs.RowsSaid.{setup_said}
+use Rattle.key_errors.specs.KeysSaid.{setup_keys_said}
+use Rattle.setup_errors.specs.RowsSaid.{setup_said}
 use Rattle.check_command.specs.Further.{IsFileFurther}
 use Rattle.check_command.proofs.Behind.{rows_behind, rows_taken}
 use Rattle.check_command.proofs.further.of_setup.Goals as goal

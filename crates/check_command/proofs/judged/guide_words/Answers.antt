@@ -2,7 +2,7 @@ use Rattle.std.proofs.Common.{List, subst}
 use Rattle.std.proofs.lemmas.Result.{IfOk-weaker}
 use Rattle.guide_tree.specs.declared.node.Node.{Node}
 use Rattle.guide_tree.specs.Words.{nodes_view, numbered}
-use Rattle.refusal_words.specs.GuideWords.{IsGuideSaid}
+use Rattle.setup_errors.specs.GuideWords.{IsGuideSaid}
 use Rattle.check_command.proofs.Reading.{own_said}
 use Rattle.check_command.proofs.judged.guide_words.Goals as goal
 

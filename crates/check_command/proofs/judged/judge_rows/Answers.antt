@@ -1,6 +1,6 @@
 use Rattle.std.proofs.Common.{ℕ, List, subst}
 use Rattle.partner_setup.specs.SetupFile.{setup_of_table}
-use Rattle.key_words.specs.KeySentences.{setup_key_words}
+use Rattle.key_errors.specs.KeyWords.{setup_key_words}
 use Rattle.check_command.specs.SetupFiles.{IsFileSaid}
 use Rattle.guide_toml.proofs.ForAbove.{rows_are}
 use Rattle.check_command.proofs.Reading.{rows_refused}

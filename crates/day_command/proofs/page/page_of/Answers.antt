@@ -1,7 +1,7 @@
 use Rattle.std.proofs.Common.{List, ℕ, ◌≡◌, ◌∙◌, ap₂, map, subst, true}
 use Rattle.csv.specs.Records.{fields_of}
 use Rattle.csv.specs.declared.record.ByteRecord.{ByteRecord}
-use Rattle.night_ends.specs.Outbox.{path_in}
+use Rattle.system_io.specs.Outbox.{path_in}
 use Rattle.night_page.specs.Totals.{gives_totals}
 use Rattle.night_page.specs.declared.told.PartnerTold.{PartnerTold}
 use Rattle.track_read.specs.declared.night.TableState.{TableState}

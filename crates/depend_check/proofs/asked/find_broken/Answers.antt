@@ -1,6 +1,4 @@
 use Rattle.std.proofs.Common.{◌≡◌, ◌↔◌, ◌∷◌, ◌++◌, [], List, take, ◌+◌, sym, subst}
-use Rattle.std.specs.Prelude.{Vec}
-use Rattle.std.specs.declared.alloc.Global.{Global}
 use Rattle.std.specs.List.{Contains}
 use Rattle.std.proofs.lemmas.List.{take_all}
 use Rattle.std.proofs.lemmas.List.Elements.{Contains-push}
@@ -28,22 +26,22 @@ loop-i-preserved c =
       before = subst (λ (l : List Dependency). Contains l d) (sym is) (Contains-push ds d);
       told = elim c.if-not-asks_again.branch [
         | then-not-asks_again+in_ok-add_broken w ↦
-            subst (λ (v : Vec Fault Global). (f : Fault) → Contains v.items f ↔ IsBrokenAmong ts c.args.delims
+            subst (λ (v : List Fault). (f : Fault) → Contains v f ↔ IsBrokenAmong ts c.args.delims
             c.args.end ps all f) (sym w.faults-is)
-            (told_more ts c.args.delims c.args.end ps ds all d c.loop-i.faults.items w.add_broken.new.faults.items is
+            (told_more ts c.args.delims c.args.end ps ds all d c.loop-i.faults w.add_broken.new.faults is
             c.loop-i.invariant.told w.in_ok-add_broken.ensures)
         | else-not-asks_again w ↦
             let both = both_of (λ (b : Bor Dependency). Contains ds b.now) (λ (b : Bor Dependency). HaveSameTarget b.now d)
             c.loop-i.before c.loop-i.invariant.before (c.asks_again.ensures w.if-not-asks_again.false) in
-            subst (λ (v : Vec Fault Global). (f : Fault) → Contains v.items f ↔ IsBrokenAmong ts c.args.delims
+            subst (λ (v : List Fault). (f : Fault) → Contains v f ↔ IsBrokenAmong ts c.args.delims
             c.args.end ps all f) (sym w.faults-is)
-            (told_again ts c.args.delims c.args.end ps ds all both.0.now d c.loop-i.faults.items is both.1 both.2
+            (told_again ts c.args.delims c.args.end ps ds all both.0.now d c.loop-i.faults is both.1 both.2
             c.loop-i.invariant.told)
       ];
     }
 
 pub returns : goal.returns
 returns c f =
-    subst (λ (l : List (Bor Dependency)). Contains c.loop-i.faults.items f
+    subst (λ (l : List (Bor Dependency)). Contains c.loop-i.faults f
     ↔ IsBrokenAmong (nodes_view c.args.nodes.now) c.args.delims c.args.end (placed_views c.args.placed.now) (lent l) f)
     (take_all c.loop-i.i c.args.asked.now c.loop-i-test.false) (c.loop-i.invariant.told f)

@@ -12,6 +12,6 @@ abbrev pub invariant-loop-i : goal.invariant-loop-i
 invariant-loop-i l =
     record {
       before : IfSome l.before (λ b. Contains (lent (take l.i l.asked)) b.now);
-      told : (f : Fault) → Contains l.faults.items f
+      told : (f : Fault) → Contains l.faults f
           ↔ IsBrokenAmong (nodes_view l.nodes) l.delims l.end (placed_views l.placed) (lent (take l.i l.asked)) f;
     }

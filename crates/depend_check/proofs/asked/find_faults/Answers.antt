@@ -13,7 +13,7 @@ returns c =
     let ts = nodes_view c.args.nodes.now in
     let all = placed_views c.args.placed.now in
     IfOk-weaker c.find_broken.result _ _ (λ v told f.
-    let told_of = subst (λ (l : List Dependency). Contains v.items f ↔ IsBrokenAmong ts c.args.delims c.args.end all l f)
+    let told_of = subst (λ (l : List Dependency). Contains v f ↔ IsBrokenAmong ts c.args.delims c.args.end all l f)
     (ap lent c.as_slice.ensures.value) (told f) in
     let same = among_found ts c.args.delims c.args.end all c.args.depends.now (lent c.in_ok-asked.asked.items) f c.in_ok-asked.ensures in
     (λ h. same.0 (told_of.0 h), λ h. told_of.1 (same.1 h))) c.find_broken.ensures

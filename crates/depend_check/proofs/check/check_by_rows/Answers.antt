@@ -18,11 +18,11 @@ in_order-requires c =
     let given = map place_in c.args.placing.now.given in
     let ts = nodes_view rows.nodes.items in
     let end = length c.args.segs.now + 2 in
-    keyed ts ts c.args.delims end body given rows.depends c.in_ok-find_in_body.field-0.items
+    keyed ts ts c.args.delims end body given rows.depends c.in_ok-find_in_body.field-0
     (ap (λ (g : GuideTree). g.nodes) c.requires.numbered)
-    (subst (λ (ds : List Dependency). (f : Fault) → Contains c.in_ok-find_in_body.field-0.items f
+    (subst (λ (ds : List Dependency). (f : Fault) → Contains c.in_ok-find_in_body.field-0 f
     ↔ IsFound ts c.args.delims end (placed_segments ts body given) ds f) c.as_slice-depends.ensures
-    (subst (λ (ns : List Node). (f : Fault) → Contains c.in_ok-find_in_body.field-0.items f
+    (subst (λ (ns : List Node). (f : Fault) → Contains c.in_ok-find_in_body.field-0 f
     ↔ IsFound (nodes_view ns) c.args.delims end (placed_segments (nodes_view ns) body given) c.as_slice-depends.result.now f)
     c.as_slice-nodes.ensures.value c.in_ok-find_in_body.ensures))
 
@@ -33,9 +33,9 @@ returns-clause-faults c f =
     let given = map place_in c.args.placing.now.given in
     let ts = nodes_view rows.nodes.items in
     let end = length c.args.segs.now + 2 in
-    let found = subst (λ (ds : List Dependency). Contains c.in_ok-find_in_body.field-0.items f
+    let found = subst (λ (ds : List Dependency). Contains c.in_ok-find_in_body.field-0 f
     ↔ IsFound ts c.args.delims end (placed_segments ts body given) ds f) c.as_slice-depends.ensures
-    (subst (λ (ns : List Node). Contains c.in_ok-find_in_body.field-0.items f
+    (subst (λ (ns : List Node). Contains c.in_ok-find_in_body.field-0 f
     ↔ IsFound (nodes_view ns) c.args.delims end (placed_segments (nodes_view ns) body given) c.as_slice-depends.result.now f)
     c.as_slice-nodes.ensures.value (c.in_ok-find_in_body.ensures f)) in
     let same = c.in_order.ensures.same f in (

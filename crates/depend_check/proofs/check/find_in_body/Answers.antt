@@ -29,6 +29,6 @@ returns c =
 pub returns-then-depends-le-FEW : goal.returns-then-depends-le-FEW
 returns-then-depends-le-FEW c =
     IfOk-weaker c.find_few.result _ _ (λ v told f.
-    subst (λ (l : List PlacedSegment). Contains v.items f ↔ IsFound (nodes_view c.args.nodes.now) c.args.delims
+    subst (λ (l : List PlacedSegment). Contains v f ↔ IsFound (nodes_view c.args.nodes.now) c.args.delims
     (length c.args.segs.now + 2) l c.args.depends.now f) (ap placed_views c.as_slice.ensures.value ∙ c.in_ok-placed.ensures) (told f))
     c.find_few.ensures

@@ -9,5 +9,5 @@ returns c =
     let x = c.args.dependency.now in
     let all = placed_views c.args.placed.now in
     on_ok_weaker c.add_uses.result (λ added. broken_added (nodes_view c.args.nodes.now) c.args.delims c.args.end all all x.target x.kind
-    x.element c.args.faults.now.items c.add_left_out.new.faults.items c.add_uses.new.faults.items (same_uses x.target all)
+    x.element c.args.faults.now c.add_left_out.new.faults c.add_uses.new.faults (same_uses x.target all)
     c.in_ok-add_left_out.ensures added) c.add_uses.ensures

@@ -8,10 +8,10 @@ use Rattle.depend_check.proofs.few.add_found.Goals as goal
 pub returns-then-not-is_triggered : goal.returns-then-not-is_triggered
 returns-then-not-is_triggered c =
     not_found_by (nodes_view c.args.nodes.now) c.args.delims c.args.end (placed_views c.args.placed.now) c.args.dependency.now
-    c.args.faults.now.items (sym c.is_triggered.ensures ∙ c.if-not-is_triggered.true)
+    c.args.faults.now (sym c.is_triggered.ensures ∙ c.if-not-is_triggered.true)
 
 pub returns : goal.returns
 returns c = on_ok_weaker c.add_broken_by.result
     (λ added. found_by_broken (nodes_view c.args.nodes.now) c.args.delims c.args.end (placed_views c.args.placed.now)
-    c.args.dependency.now c.args.faults.now.items c.add_broken_by.new.faults.items
+    c.args.dependency.now c.args.faults.now c.add_broken_by.new.faults
     (sym c.is_triggered.ensures ∙ c.if-not-is_triggered.false) added) c.add_broken_by.ensures

@@ -13,7 +13,7 @@ pub loop-i-init : goal.loop-i-init
 loop-i-init c f =
     let ts = nodes_view c.args.nodes.now in
     let ps = placed_views c.args.placed.now in
-    subst (λ (l : List Fault). Contains l f ↔ IsFound ts c.args.delims c.args.end ps [] f) (sym c.new-faults.ensures.items)
+    subst (λ (l : List Fault). Contains l f ↔ IsFound ts c.args.delims c.args.end ps [] f) (sym c.new-faults.ensures)
     (found_nothing ts c.args.delims c.args.end ps f)
 
 pub loop-i-preserved : goal.loop-i-preserved
@@ -23,11 +23,11 @@ loop-i-preserved c =
     let is : take (c.loop-i.i + 1) c.args.depends.now ≡ ds ++ d ∷ [] =
     take_more c.args.depends.now c.loop-i.i d c.loop-i-test.true ∙ ap (λ (x : Dependency). ds ++ x ∷ []) (sym c.index-depends-i.is) in
     found_more (nodes_view c.args.nodes.now) c.args.delims c.args.end (placed_views c.args.placed.now) ds
-    (take (c.loop-i.i + 1) c.args.depends.now) d c.loop-i.faults.items c.add_found.new.faults.items is c.loop-i.invariant
+    (take (c.loop-i.i + 1) c.args.depends.now) d c.loop-i.faults c.add_found.new.faults is c.loop-i.invariant
     c.in_ok-add_found.ensures
 
 pub returns : goal.returns
 returns c f =
-    subst (λ (l : List Dependency). Contains c.loop-i.faults.items f
+    subst (λ (l : List Dependency). Contains c.loop-i.faults f
     ↔ IsFound (nodes_view c.args.nodes.now) c.args.delims c.args.end (placed_views c.args.placed.now) l f)
     (take_all c.loop-i.i c.args.depends.now c.loop-i-test.false) (c.loop-i.invariant f)

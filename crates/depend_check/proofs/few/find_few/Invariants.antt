@@ -8,5 +8,5 @@ use Rattle.depend_check.proofs.few.find_few.Given as goal
 
 -- what is reported of those so far
 abbrev pub invariant-loop-i : goal.invariant-loop-i
-invariant-loop-i l = (f : Fault) → Contains l.faults.items f
+invariant-loop-i l = (f : Fault) → Contains l.faults f
     ↔ IsFound (nodes_view l.nodes) l.delims l.end (placed_views l.placed) (take l.i l.depends) f

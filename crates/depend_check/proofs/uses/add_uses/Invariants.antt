@@ -7,5 +7,5 @@ use Rattle.depend_check.proofs.uses.add_uses.Given as goal
 -- what the segments so far break
 abbrev pub invariant-loop-i : goal.invariant-loop-i
 invariant-loop-i l =
-    l.faults.items ≡ l.fn.faults.items
+    l.faults ≡ l.fn.faults
     ++ flat_map (faults_of_use l.delims l.dependency.target l.dependency.kind l.dependency.element) (placed_views (take l.i l.placed))

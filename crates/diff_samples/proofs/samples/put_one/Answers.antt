@@ -1,7 +1,7 @@
 use Rattle.std.proofs.Common.{◌∙◌, ◌++◌, List, ℕ, [], ◌∷◌, ap₂, get_or, subst, sym}
 use Rattle.std.proofs.lemmas.Option.{slice_get-get_or}
 use Rattle.std.proofs.lemmas.Result.{on_ok_weaker}
-use Rattle.night_ends.specs.Outbox.{AddsFiles, File}
+use Rattle.system_io.specs.Outbox.{AddsFiles, File}
 use Rattle.diff_samples.specs.Samples.{row_text}
 use Rattle.diff_samples.proofs.Putting.{file_made, shows_it, unshown, wider}
 use Rattle.diff_samples.proofs.samples.put_one.Goals as goal

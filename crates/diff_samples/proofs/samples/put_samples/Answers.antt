@@ -3,7 +3,7 @@ use Rattle.std.proofs.lemmas.Result.{on_ok_weaker}
 use Rattle.guide_tree.specs.Words.{guide_of, nodes_view}
 use Rattle.guide_tree.specs.declared.node.Node.{Node}
 use Rattle.guide_tree.specs.declared.rows.GuideRows.{GuideRows}
-use Rattle.night_ends.specs.Outbox.{AddsFiles}
+use Rattle.system_io.specs.Outbox.{AddsFiles}
 use Rattle.diff_lines.specs.Paths.{paths_of}
 use Rattle.diff_samples.proofs.Putting.{all_samples, file_made}
 use Rattle.diff_samples.proofs.samples.put_samples.Goals as goal

@@ -1,8 +1,8 @@
 use Rattle.std.proofs.Common.{◌≡◌, ◌+◌, ◌++◌, ◌∷◌, [], ◌≤◌, ℕ, List, Option, Some, length, sym, ap, subst, arith}
 use Rattle.env_index.proofs.ForAbove.{head_within}
-use Rattle.batch_cut.specs.Scouting.{Advances, IsInside, Stands}
-use Rattle.batch_cut.specs.declared.scout.Advanced.{Advanced}
-use Rattle.batch_cut.specs.declared.scout.Inside.{Inside}
+use Rattle.whole_interchanges.specs.Scouting.{Advances, IsInside, Stands}
+use Rattle.whole_interchanges.specs.declared.scout.Advanced.{Advanced}
+use Rattle.whole_interchanges.specs.declared.scout.Inside.{Inside}
 use Rattle.gather_files.specs.Gathered.{HoldsInterchanges}
 use Rattle.gather_files.specs.Closing.{IsClosedBy}
 use Rattle.gather_files.specs.declared.closing.OpenInterchange.{OpenInterchange}

@@ -3,11 +3,11 @@ use Rattle.std.proofs.Common.{length, sym, ap, subst, arith, inl, inr}
 use Rattle.std.proofs.lemmas.List.{append-nil, length-append}
 use Rattle.x12_bytes.specs.HeaderTest.{is_head}
 use Rattle.env_index.proofs.ForAbove.{head_within}
-use Rattle.batch_cut.specs.Batches.{whole_end}
-use Rattle.batch_cut.specs.Begun.{may_begin}
-use Rattle.batch_cut.specs.Scouting.{Advances, IsInside, IsLeft, Stands}
-use Rattle.batch_cut.specs.declared.scout.Advanced.{Advanced}
-use Rattle.batch_cut.specs.declared.scout.Inside.{Inside}
+use Rattle.whole_interchanges.specs.Batches.{whole_end}
+use Rattle.whole_interchanges.specs.Begun.{may_begin}
+use Rattle.whole_interchanges.specs.Scouting.{Advances, IsInside, IsLeft, Stands}
+use Rattle.whole_interchanges.specs.declared.scout.Advanced.{Advanced}
+use Rattle.whole_interchanges.specs.declared.scout.Inside.{Inside}
 use Rattle.gather_files.specs.ClosingBytes.{blanks}
 use Rattle.gather_files.specs.Gathered.{HoldsInterchanges}
 use Rattle.gather_files.proofs.Blanks.{blanks_break}

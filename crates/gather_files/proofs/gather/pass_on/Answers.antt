@@ -1,8 +1,8 @@
 use Rattle.std.proofs.Common.{◌≡◌, ◌-◌, ◌≤◌, ◌++◌, ℕ, List, length, take, refl, sym, ap, subst}
 use Rattle.std.specs.List.{suffix_len}
 use Rattle.std.specs.Io.KnownBytes.{Appends}
-use Rattle.batch_cut.specs.Scouting.{Advances, Stands}
-use Rattle.batch_cut.specs.declared.scout.Advanced.{Advanced}
+use Rattle.whole_interchanges.specs.Scouting.{Advances, Stands}
+use Rattle.whole_interchanges.specs.declared.scout.Advanced.{Advanced}
 use Rattle.stream_read.specs.Held.{HeldValue}
 use Rattle.gather_files.specs.Gathering.{is_end}
 use Rattle.gather_files.specs.declared.gather.Passing.{Passing}

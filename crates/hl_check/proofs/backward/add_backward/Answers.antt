@@ -19,7 +19,7 @@ loop-left-preserved c =
       within = omega arith;
       named = subst (λ (l : List PlacedSegment). KnowsNamed c.add_before.new.named c.args.delims (segments_of l)) (sym e)
           (c.in_ok-add_before.ensures.named (segments_of later) known);
-      told = backward_more c.args.faults.now.items c.loop-left.faults.items c.add_before.new.faults.items c.args.delims
+      told = backward_more c.args.faults.now c.loop-left.faults c.add_before.new.faults c.args.delims
           (placed_view c.index-hls-left.result) later all e c.loop-left.invariant.told
           (c.in_ok-add_before.ensures.faults (segments_of later) known);
     }

@@ -11,7 +11,7 @@ invariant-loop-left l =
     record {
       within : l.left ≤ length l.hls;
       named : KnowsNamed l.named l.delims (segments_of (placed_views (drop l.left l.hls)));
-      told : l.faults.items ≡ l.fn.faults.items ++ backward_faults l.delims (placed_views (drop l.left l.hls));
+      told : l.faults ≡ l.fn.faults ++ backward_faults l.delims (placed_views (drop l.left l.hls));
     }
 
 abbrev pub decreases-loop-left : goal.decreases-loop-left

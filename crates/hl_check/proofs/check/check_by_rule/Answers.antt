@@ -18,7 +18,7 @@ in_order-requires c =
     let given = map place_in c.args.placing.now.given in
     let body = map elements_of c.args.segs.now in
     let ts = nodes_view c.args.nodes.now in
-    keyed ts body given c.args.rule.now c.args.delims c.in_ok-find_faults.field-0.items
+    keyed ts body given c.args.rule.now c.args.delims c.in_ok-find_faults.field-0
     (c.in_ok-find_faults.ensures
     ∙ ap (found_faults c.args.rule.now c.args.delims (placed_views c.as_slice.result.now))
     (sym (length-map c.as_slice.result.now placed_view))
@@ -30,7 +30,7 @@ returns-clause-faults c f =
     let given = map place_in c.args.placing.now.given in
     let body = map elements_of c.args.segs.now in
     let all = hls_of (nodes_view c.args.nodes.now) body given in
-    let found : c.in_ok-find_faults.field-0.items ≡ found_faults c.args.rule.now c.args.delims all (length all) =
+    let found : c.in_ok-find_faults.field-0 ≡ found_faults c.args.rule.now c.args.delims all (length all) =
     c.in_ok-find_faults.ensures
     ∙ ap (found_faults c.args.rule.now c.args.delims (placed_views c.as_slice.result.now))
     (sym (length-map c.as_slice.result.now placed_view))

@@ -22,7 +22,7 @@ loop-i-preserved c =
           (sym (ap segments_of (take_views c.args.hls.now c.loop-i.i c.index-hls-i.result c.index-hls-i.is (omega arith))
           ∙ map-append (λ h. h.segment) earlier (placed_view c.index-hls-i.result ∷ [])))
           (c.in_ok-add_behind.ensures.levels (segments_of earlier) known);
-      told = forward_more c.args.faults.now.items c.loop-i.faults.items c.add_behind.new.faults.items c.args.rule.now c.args.delims hls
+      told = forward_more c.args.faults.now c.loop-i.faults c.add_behind.new.faults c.args.rule.now c.args.delims hls
           c.loop-i.i (placed_view c.index-hls-i.result) (view_there c.args.hls.now c.loop-i.i c.index-hls-i.result c.index-hls-i.is
           (omega arith))
           c.loop-i.invariant.told (c.in_ok-add_behind.ensures.faults (segments_of earlier) known count);

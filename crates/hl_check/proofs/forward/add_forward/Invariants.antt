@@ -10,5 +10,5 @@ abbrev pub invariant-loop-i : goal.invariant-loop-i
 invariant-loop-i l =
     record {
       levels : KnowsLevels l.levels (segments_of (take l.i (placed_views l.hls)));
-      told : l.faults.items ≡ l.fn.faults.items ++ forward_faults l.rule l.delims (placed_views l.hls) l.i;
+      told : l.faults ≡ l.fn.faults ++ forward_faults l.rule l.delims (placed_views l.hls) l.i;
     }

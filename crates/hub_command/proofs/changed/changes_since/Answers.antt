@@ -1,6 +1,6 @@
 use Rattle.std.proofs.Common.{◌≡◌, ℕ, List, subst, codes, rules}
 use Rattle.guide_changes.specs.Changes.{AreChanges}
-use Rattle.night_ends.specs.Outbox.{path_in}
+use Rattle.system_io.specs.Outbox.{path_in}
 use Rattle.hub_command.specs.Changed as changed
 use Rattle.hub_command.proofs.changed.changes_since.Goals as goal
 

@@ -1,6 +1,6 @@
 use Rattle.std.proofs.Common.{◌∙◌, List, Option, ap, map, subst}
 use Rattle.clap.specs.Words.{Text, first_value, found_of}
-use Rattle.night_ends.specs.Words.{values_found}
+use Rattle.system_io.specs.Words.{values_found}
 use Rattle.night_command.specs.CommandLine.{piece_given, workers_given}
 use Rattle.hub_command.specs.Asked.{IsRequested, text_of}
 use Rattle.hub_command.specs.CommandLine.{Request, Rest, rest_of, run_given}

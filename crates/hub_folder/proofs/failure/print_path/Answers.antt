@@ -1,7 +1,7 @@
 use Rattle.std.proofs.Common.{◌++◌}
 use Rattle.std.proofs.lemmas.Result.{on_ok_weaker}
 use Rattle.file_names.specs.Shown.{shown}
-use Rattle.night_ends.proofs.ForAbove.{writes_on}
+use Rattle.system_io.proofs.ForAbove.{writes_on}
 use Rattle.hub_folder.proofs.failure.print_path.Goals as goal
 
 pub returns : goal.returns

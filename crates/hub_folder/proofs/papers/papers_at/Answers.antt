@@ -1,5 +1,5 @@
 use Rattle.std.proofs.Common.{◌∙◌, List, ℕ, ap, codes, subst, sym}
-use Rattle.night_ends.specs.Outbox.{path_in}
+use Rattle.system_io.specs.Outbox.{path_in}
 use Rattle.night_folder.specs.Files.{FileValue}
 use Rattle.night_shelf.specs.declared.night.NightFile.{NightFile}
 use Rattle.hub_folder.specs.Papers.{AreGuidesAt, IsReadFile}

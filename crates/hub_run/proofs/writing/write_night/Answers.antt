@@ -1,5 +1,5 @@
 use Rattle.std.proofs.Common.{subst}
-use Rattle.night_writing.specs.Writing.{IsBatchWritten, WritingValue}
+use Rattle.night_batches.specs.Writing.{IsBatchWritten, WritingValue}
 use Rattle.hub_run.proofs.writing.write_night.Goals as goal
 
 pub close_one-requires : goal.close_one-requires

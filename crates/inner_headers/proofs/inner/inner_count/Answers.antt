@@ -1,6 +1,6 @@
 use Rattle.std.proofs.Common.{ℕ, ◌≤◌, ◌+◌, arith, length}
 use Rattle.env_index.specs.Extents.{reach_at}
-use Rattle.batch_cut.proofs.ForAbove.{end_behind, end_within}
+use Rattle.whole_interchanges.proofs.ForAbove.{end_behind, end_within}
 use Rattle.inner_headers.proofs.inner.inner_count.Goals as goal
 
 pub scan_piece-requires-clause-order : goal.scan_piece-requires-clause-order

@@ -29,7 +29,7 @@ returns-clause-slots g c =
 pub in_order-requires : goal.in_order-requires
 in_order-requires g c =
     found_keyed (g.N.NextPlace.guide c.args.next.now) (map elements_of c.args.segs.now) (length c.args.segs.now + 2)
-    c.into_faults.result.items c.in_ok-pass.ensures.accepted (c.into_faults.ensures ∙ c.in_ok-pass.ensures.found)
+    c.into_faults.result c.in_ok-pass.ensures.accepted (c.into_faults.ensures ∙ c.in_ok-pass.ensures.found)
 
 pub returns-clause-faults : goal.returns-clause-faults
 returns-clause-faults g c f =

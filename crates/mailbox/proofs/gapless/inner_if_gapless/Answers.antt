@@ -1,5 +1,5 @@
 use Rattle.std.proofs.Common.{drop, sym, ◌∙◌}
-use Rattle.judged_text.specs.Judged.{delims_in, segments_in}
+use Rattle.answered_sets.specs.Judged.{delims_in, segments_in}
 use Rattle.mailbox.specs.Deliveries.{inner_count}
 use Rattle.mailbox.proofs.WithoutGap.{found_whole}
 use Rattle.mailbox.proofs.gapless.inner_if_gapless.Goals as goal

@@ -1,4 +1,6 @@
 use Rattle.std.proofs.Common.{◌≡◌, ◌++◌, ◌+◌, drop, length}
+use Rattle.answered_sets.specs.Judged.{all_sets}
+use Rattle.mailbox.specs.Deliveries.{outcomes_of}
 use Rattle.night_report.specs.Adding.{added, none, interchange_totals}
 use Rattle.night_report.specs.Report.{all_lines}
 use Rattle.night_report.specs.Room.{HasRoom, IsOfInterchanges}
@@ -13,4 +15,5 @@ invariant-loop-i l =
       of_those : IsOfInterchanges l.totals l.i;
       totals : added (interchange_totals l.setup) l.totals (drop l.i l.interchanges)
           ≡ added (interchange_totals l.setup) none l.interchanges;
+      left : l.left ≡ outcomes_of l.setup (all_sets (drop l.i l.interchanges));
     }

@@ -1,4 +1,4 @@
-use Rattle.checked_text.specs.CheckedText.{IsCheckedAs}
+use Rattle.set_answers.specs.CheckedText.{IsCheckedAs}
 use Rattle.night_stream.proofs.Answering.{all_moved, judged_moved}
 use Rattle.night_stream.proofs.Pairs.{pairs_joined}
 use Rattle.night_stream.proofs.answer_laws.batches_are_answered.Goals as goal

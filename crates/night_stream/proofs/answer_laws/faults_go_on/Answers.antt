@@ -1,4 +1,4 @@
-use Rattle.checked_text.proofs.ForAbove.{by_numbers}
+use Rattle.set_answers.proofs.ForAbove.{by_numbers}
 use Rattle.night_stream.proofs.Numbering.{faults_moved, keys_behind, settled_joined}
 use Rattle.night_stream.proofs.answer_laws.faults_go_on.Goals as goal
 

@@ -1,5 +1,5 @@
 use Rattle.std.proofs.Common.{◌+◌, ℕ, List, take, sym, subst, refl}
-use Rattle.batch_cut.specs.Scouting.{Advances, Stands}
+use Rattle.whole_interchanges.specs.Scouting.{Advances, Stands}
 use Rattle.night_stream.proofs.Steps.{can_go_on, read_batch}
 use Rattle.night_stream.specs.Carried.{HasWorked}
 use Rattle.night_stream.proofs.stream.go_on.Goals as goal
@@ -10,9 +10,9 @@ add_batch-requires-clause-room g c κs within =
 
 pub returns-clause-read : goal.returns-clause-read
 returns-clause-read g c first now is =
-    let ahead : ℕ = c.advance.result.scout.at in
-    let advances : Advances c.args.held.now.bytes c.args.reading.scout.at c.advance.result =
-    subst (λ (l : List ℕ). Advances l c.args.reading.scout.at c.advance.result) c.bytes.ensures c.advance.ensures in
+    let ahead : ℕ = c.in_ok-advanced.advanced.scout.at in
+    let advances : Advances c.args.held.now.bytes c.args.reading.scout.at c.in_ok-advanced.advanced =
+    subst (λ (l : List ℕ). Advances l c.args.reading.scout.at c.in_ok-advanced.advanced) c.bytes.ensures c.in_ok-advanced.ensures in
     let worked : HasWorked (take ahead c.args.held.now.bytes) c.args.setup.now c.args.at.now c.args.reading.base c.args.reading.carried
     c.in_ok-carried.carried =
     subst (λ (l : List ℕ). HasWorked (take ahead l) c.args.setup.now c.args.at.now c.args.reading.base c.args.reading.carried
@@ -21,5 +21,5 @@ returns-clause-read g c first now is =
     subst (λ (l : List ℕ). Stands l 0 c.forget.result.inside) (sym c.give_up.ensures.bytes)
     (c.forget.ensures.stands c.args.held.now.bytes advances.stands) in
     read_batch c.args.setup.now c.args.at.now first now c.args.held.now c.give_up.new.self c.args.reading
-    (record { scout = c.forget.result; base = c.args.reading.base + ahead; carried = c.in_ok-carried.carried }) c.advance.result is advances
-    worked c.give_up.ensures.bytes c.give_up.ensures.total refl c.forget.ensures.at stands
+    (record { scout = c.forget.result; base = c.args.reading.base + ahead; carried = c.in_ok-carried.carried })
+    c.in_ok-advanced.advanced is advances worked c.give_up.ensures.bytes c.give_up.ensures.total refl c.forget.ensures.at stands

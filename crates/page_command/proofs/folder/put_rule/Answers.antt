@@ -2,7 +2,7 @@ use Rattle.std.proofs.Common.{◌∙◌, ◌++◌, ◌+◌, ℕ, List, [], ◌�
 use Rattle.std.proofs.lemmas.Result.{on_ok_weaker}
 use Rattle.csv_fields.specs.Csv.{field_text, fields_text}
 use Rattle.guide_tree.specs.Words.{guide_of}
-use Rattle.night_ends.specs.Outbox.{AddsFiles, File}
+use Rattle.system_io.specs.Outbox.{AddsFiles, File}
 use Rattle.page_command.proofs.Putting.{file_made, no_rule, one_rule}
 use Rattle.page_command.proofs.folder.put_rule.Goals as goal
 

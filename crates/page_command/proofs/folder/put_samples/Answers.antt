@@ -3,7 +3,7 @@ use Rattle.std.proofs.lemmas.Result.{on_ok_weaker}
 use Rattle.guide_tree.specs.Words.{guide_of}
 use Rattle.guide_tree.specs.declared.rows.GuideRows.{GuideRows}
 use Rattle.guide_samples.specs.declared.rule.Rule.{Rule}
-use Rattle.night_ends.specs.Outbox.{AddsFiles}
+use Rattle.system_io.specs.Outbox.{AddsFiles}
 use Rattle.page_command.specs.Folder.{AddsBroken}
 use Rattle.page_command.proofs.Putting.{all_samples, file_made}
 use Rattle.page_command.proofs.folder.put_samples.Goals as goal

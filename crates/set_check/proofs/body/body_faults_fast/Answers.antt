@@ -21,4 +21,4 @@ placed_faults-requires-clause-placed c =
 pub returns-clause-exact : goal.returns-clause-exact
 returns-clause-exact c =
     subst (λ (rows : GuideRows). IfOk c.placed_faults.result (λ v. AreSetFaults (Some (guide_of rows))
-    (parts_of c.args.set.now.delims c.args.set.now.closed c.args.segs.now) v.items)) c.guide.ensures c.placed_faults.ensures.exact
+    (parts_of c.args.set.now.delims c.args.set.now.closed c.args.segs.now) v)) c.guide.ensures c.placed_faults.ensures.exact

@@ -22,7 +22,7 @@ with_others-requires c =
     subst (λ (l : List SegValue). IsPlacedBy c.args.guide.now l c.args.placing) (sym c.inner_of-body.ensures) c.requires.placed in
     first_keyed (guide_of c.args.guide.now) c.args.set.now.delims c.args.set.now.closed c.args.segs.now c.inner_of-body.result.now
     (map place_in c.args.placing.given) c.in_ok-errors.ensures.well c.requires.read c.inner_of-body.ensures
-    placed.places c.in_ok-errors.errors.items c.in_ok-errors.ensures.errors
+    placed.places c.in_ok-errors.errors c.in_ok-errors.ensures.errors
 
 pub in_order-requires : goal.in_order-requires
 in_order-requires c =
@@ -30,14 +30,14 @@ in_order-requires c =
     subst (λ (l : List SegValue). IsPlacedBy c.args.guide.now l c.args.placing) (sym c.inner_of-body.ensures) c.requires.placed in
     let d = c.args.set.now.delims in
     let body = c.inner_of-body.result.now in
-    let kept = c.into_vec-structure.ensures ∙ c.into_faults.ensures in
+    let kept = c.into_faults.ensures in
     let inside : All (λ (s : SegValue). s.delims ≡ d) body =
     subst (All (λ (s : SegValue). s.delims ≡ d)) (sym c.inner_of-body.ensures)
     (read_inside d c.args.set.now.closed c.args.segs.now c.requires.read) in
     set_keyed_members (guide_of c.args.guide.now) d c.args.set.now.closed c.args.segs.now body
     (map place_in c.args.placing.given) c.in_ok-errors.ensures.well c.requires.read c.inner_of-body.ensures
-    placed.places c.in_ok-errors.errors.items c.in_ok-others.others.items c.in_ok-faults.faults.items
-    c.into_vec-structure.result.items c.append.new.self.items (record {
+    placed.places c.in_ok-errors.errors c.in_ok-others.others c.in_ok-faults.faults
+    c.into_faults.result c.append.new.self (record {
       errors = c.in_ok-errors.ensures.errors;
       others = c.in_ok-others.ensures.exact d inside;
       keyed = c.in_ok-others.ensures.keyed d inside;
@@ -46,7 +46,7 @@ in_order-requires c =
           (map elements_of body) (placing_of (guide_of c.args.guide.now).nodes (map elements_of body)) (length body + 2) f) (sym kept)
           placed.faults;
       rising = subst AreRising (sym kept) placed.rising;
-      all = c.in_ok-append.ensures.items;
+      all = c.in_ok-append.ensures;
     })
 
 pub returns-clause-exact : goal.returns-clause-exact
@@ -55,15 +55,15 @@ returns-clause-exact c =
     subst (λ (l : List SegValue). IsPlacedBy c.args.guide.now l c.args.placing) (sym c.inner_of-body.ensures) c.requires.placed in
     let d = c.args.set.now.delims in
     let body = c.inner_of-body.result.now in
-    let kept = c.into_vec-structure.ensures ∙ c.into_faults.ensures in
+    let kept = c.into_faults.ensures in
     let inside : All (λ (s : SegValue). s.delims ≡ d) body =
     subst (All (λ (s : SegValue). s.delims ≡ d)) (sym c.inner_of-body.ensures)
     (read_inside d c.args.set.now.closed c.args.segs.now c.requires.read) in
     let are =
     set_members (guide_of c.args.guide.now) d c.args.set.now.closed c.args.segs.now body
     (map place_in c.args.placing.given) c.in_ok-errors.ensures.well c.requires.read c.inner_of-body.ensures
-    placed.places c.in_ok-errors.errors.items c.in_ok-others.others.items c.in_ok-faults.faults.items
-    c.into_vec-structure.result.items c.append.new.self.items (record {
+    placed.places c.in_ok-errors.errors c.in_ok-others.others c.in_ok-faults.faults
+    c.into_faults.result c.append.new.self (record {
       errors = c.in_ok-errors.ensures.errors;
       others = c.in_ok-others.ensures.exact d inside;
       keyed = c.in_ok-others.ensures.keyed d inside;
@@ -72,6 +72,6 @@ returns-clause-exact c =
           (map elements_of body) (placing_of (guide_of c.args.guide.now).nodes (map elements_of body)) (length body + 2) f) (sym kept)
           placed.faults;
       rising = subst AreRising (sym kept) placed.rising;
-      all = c.in_ok-append.ensures.items;
+      all = c.in_ok-append.ensures;
     }) in
     λ f. (λ x. (are f).0 ((c.in_order.ensures.same f).0 x), λ y. (c.in_order.ensures.same f).1 ((are f).1 y))

@@ -17,7 +17,7 @@ set_faults-requires-clause-read c =
 pub checked_by-requires-clause-faults : goal.checked_by-requires-clause-faults
 checked_by-requires-clause-faults c =
     subst (λ (x : List SegValue). AreSetFaults (guide_tree_of (option_copied c.args.guide)) (parts_of c.args.set.delims c.args.set.closed x)
-    c.in_ok-faults.faults.items)
+    c.in_ok-faults.faults)
     (c.as_slice.ensures.value ∙ c.in_ok-segs.ensures) c.in_ok-faults.ensures.exact
 
 pub checked_by-requires-clause-envelope : goal.checked_by-requires-clause-envelope

@@ -9,9 +9,9 @@ use Rattle.set_check.specs.SetParts.{parts_of}
 use Rattle.set_check.proofs.check.set_faults.Goals as goal
 
 pub returns-in-None-clause-rising : goal.returns-in-None-clause-rising
-returns-in-None-clause-rising c = subst AreRising (sym c.new.ensures.items) (none_rises key_of)
+returns-in-None-clause-rising c = subst AreRising (sym c.new.ensures) (none_rises key_of)
 
 pub returns-in-Some-clause-exact : goal.returns-in-Some-clause-exact
 returns-in-Some-clause-exact c =
     subst (λ (o : Option (Bor Guide)). IfOk c.body_faults.result (λ v. AreSetFaults (guide_tree_of (option_copied o))
-    (parts_of c.args.set.now.delims c.args.set.now.closed c.args.segs.now) v.items)) (sym c.in-Some.is) c.body_faults.ensures.exact
+    (parts_of c.args.set.now.delims c.args.set.now.closed c.args.segs.now) v)) (sym c.in-Some.is) c.body_faults.ensures.exact

@@ -7,4 +7,4 @@ use Rattle.set_check.proofs.elements.add_elements.Given as goal
 
 abbrev pub invariant-loop-i : goal.invariant-loop-i
 invariant-loop-i l =
-    Adds l.initial.faults.items l.faults.items (IsErrorBelow (nodes_view l.nodes) l.segs (map place_in l.placing.given) l.i)
+    Adds l.initial.faults l.faults (IsErrorBelow (nodes_view l.nodes) l.segs (map place_in l.placing.given) l.i)

@@ -24,7 +24,7 @@ add_elements-requires-clause-slots c =
 pub returns-clause-errors : goal.returns-clause-errors
 returns-clause-errors c =
     let nodes = c.as_slice.ensures.value ∙ ap (λ (r : GuideRows). r.nodes.items) c.rows-rows.ensures.same in
-    subst (λ (l : List Fault). Adds l c.add_elements.new.faults.items (IsErrorBelow (guide_of c.args.guide.now).nodes c.args.segs.now
-    (map place_in c.args.placing.now.given) (length c.args.segs.now))) c.new-faults.ensures.items
-    (subst (λ (ns : List Node). Adds c.new-faults.result.items c.add_elements.new.faults.items (IsErrorBelow (nodes_view ns)
+    subst (λ (l : List Fault). Adds l c.add_elements.new.faults (IsErrorBelow (guide_of c.args.guide.now).nodes c.args.segs.now
+    (map place_in c.args.placing.now.given) (length c.args.segs.now))) c.new-faults.ensures
+    (subst (λ (ns : List Node). Adds c.new-faults.result c.add_elements.new.faults (IsErrorBelow (nodes_view ns)
     c.args.segs.now (map place_in c.args.placing.now.given) (length c.args.segs.now))) nodes c.in_ok-add_elements.ensures)

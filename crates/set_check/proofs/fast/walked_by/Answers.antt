@@ -32,5 +32,5 @@ returns-clause-faults c =
     let w = c.in-Some-2.walked in
     let walked : IsWalkedSet g set.delims set.closed segs w =
     subst (λ (o : Option WalkedSet). IfSome o (IsWalkedSet g set.delims set.closed segs)) c.in-Some-2.is c.in_ok-walked.ensures.walked in
-    subst (λ (o : Option (Bor GuideRows)). AreSetFaults (guide_tree_of (option_copied o)) (set_parts c.args.text.now set) w.faults.items)
+    subst (λ (o : Option (Bor GuideRows)). AreSetFaults (guide_tree_of (option_copied o)) (set_parts c.args.text.now set) w.faults)
     (sym c.in-Some.is) (walked_faults g set.delims set.closed segs w (read_of c.args.text.now set segs c.requires refl) walked)

@@ -11,13 +11,13 @@ use Rattle.set_check.proofs.rules.rule_faults.Goals as goal
 
 pub returns-clause-exact : goal.returns-clause-exact
 returns-clause-exact c delims read f =
-    let hierarchies = c.in_ok-faults.faults.items in
-    let dependencies = c.in_ok-dependencies.dependencies.items in
+    let hierarchies = c.in_ok-faults.faults in
+    let dependencies = c.in_ok-dependencies.dependencies in
     let by_hl = c.in_ok-faults.ensures.faults delims read f in
     let by_need = c.in_ok-dependencies.ensures.faults delims read f in (
       λ h. ⊎_elim (λ a. inl (by_hl.0 a)) (λ b. inr (by_need.0 b)) (Contains-append_cases hierarchies dependencies f
-          (subst (λ (l : List Fault). Contains l f) c.in_ok-append.ensures.items h)),
-      λ h. subst (λ (l : List Fault). Contains l f) (sym c.in_ok-append.ensures.items) (⊎_elim
+          (subst (λ (l : List Fault). Contains l f) c.in_ok-append.ensures h)),
+      λ h. subst (λ (l : List Fault). Contains l f) (sym c.in_ok-append.ensures) (⊎_elim
           (λ a. Contains-append_left hierarchies dependencies f (by_hl.1 a))
           (λ b. Contains-append_right hierarchies dependencies f (by_need.1 b)) h),
     )
@@ -25,7 +25,7 @@ returns-clause-exact c delims read f =
 pub returns-clause-keyed : goal.returns-clause-keyed
 returns-clause-keyed c delims read =
     rules_keyed (guide_of c.args.guide.now) delims (map elements_of c.args.segs.now) (map place_in c.args.placing.now.given)
-    (length c.args.segs.now + 2) c.in_ok-faults.faults.items c.in_ok-dependencies.dependencies.items c.append.new.self.items
+    (length c.args.segs.now + 2) c.in_ok-faults.faults c.in_ok-dependencies.dependencies c.append.new.self
     (rising_keyed _ c.in_ok-faults.ensures.rising) (rising_keyed _ c.in_ok-dependencies.ensures.rising)
     (λ f. c.in_ok-faults.ensures.faults delims read f) (λ f. c.in_ok-dependencies.ensures.faults delims read f)
-    c.in_ok-append.ensures.items
+    c.in_ok-append.ensures

@@ -40,10 +40,10 @@ returns c =
     ∙ ap (λ (l : List Step). old.structure ++ step_faults at g.nodes (last_of (place_view last)) (place_view l))
     c.as_slice-place.ensures.value in
     let nodes = c.as_slice-nodes.ensures.value ∙ ap (λ (r : GuideRows). r.nodes.items) (c.rows.ensures.same ∙ c.guide.ensures) in
-    let adds : Adds old.errors.items c.tell_found.new.faults.items (IsTold at seg (loop_id_of g.nodes (place_view more)) t.slot.now) =
-    subst (λ (l : List Step). Adds old.errors.items c.tell_found.new.faults.items
+    let adds : Adds old.errors c.tell_found.new.faults (IsTold at seg (loop_id_of g.nodes (place_view more)) t.slot.now) =
+    subst (λ (l : List Step). Adds old.errors c.tell_found.new.faults
     (IsTold at seg (loop_id_of g.nodes (place_view l)) t.slot.now)) c.as_slice-place.ensures.value
-    (subst (λ (ns : List Node). Adds old.errors.items c.tell_found.new.faults.items
+    (subst (λ (ns : List Node). Adds old.errors c.tell_found.new.faults
     (IsTold at seg (loop_id_of (nodes_view ns) (place_view c.as_slice-place.result.now)) t.slot.now)) nodes c.in_ok-tell_found.ensures) in
     took g old
     (record {
@@ -55,6 +55,6 @@ returns c =
     })
     t seg c.requires.turn (ap place_view moved ∙ goes) c.requires.uses c.requires.room refl
     (structure ∙ ap (λ (l : List Step). old.structure ++ step_faults at g.nodes (last_of (place_view last)) (place_view l)) (sym moved))
-    (subst (λ (l : List Step). Adds old.errors.items c.tell_found.new.faults.items
+    (subst (λ (l : List Step). Adds old.errors c.tell_found.new.faults
     (IsTold at seg (loop_id_of g.nodes (place_view l)) t.slot.now)) (sym moved) adds)
     c.in_ok-keep.ensures refl

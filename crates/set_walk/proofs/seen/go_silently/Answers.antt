@@ -33,5 +33,5 @@ returns c =
     })
     t seg c.requires.turn goes c.requires.uses c.requires.room refl
     (sym (ap (λ (l : List Fault). old.structure ++ l) none ∙ append-nil old.structure))
-    (none_added old.errors.items at seg (loop_id_of g.nodes (place_view more)) t.slot.now c.requires.faultless)
+    (none_added old.errors at seg (loop_id_of g.nodes (place_view more)) t.slot.now c.requires.faultless)
     c.in_ok-keep.ensures refl

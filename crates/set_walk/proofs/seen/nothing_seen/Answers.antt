@@ -12,4 +12,4 @@ returns c g =
       kept = record { hls = c.new-5.result; names = c.new-6.result; labelled = c.new-7.result };
       trailer = None;
     })
-    c.new.ensures.items refl c.new-3.ensures c.new-4.ensures.items c.new-5.ensures.items c.new-6.ensures.items c.new-7.ensures.items refl
+    c.new.ensures.items refl c.new-3.ensures c.new-4.ensures c.new-5.ensures.items c.new-6.ensures.items c.new-7.ensures.items refl

@@ -8,6 +8,6 @@ use Rattle.set_walk.proofs.whole.body_faults.Goals as goal
 pub returns : goal.returns
 returns c =
     let end : List Fault = end_faults (c.args.walk.now.count + 2) (guide_of c.args.fast.now).nodes (last_in c.args.walk.now) in
-    let structure : c.into_faults.result.items ≡ c.args.structure ++ end = search rules in
-    subst (λ (l : List Fault). IfOk c.faults_of_both.result (λ v. (f : Fault) → Contains v.items f ↔ Contains (l ++ c.args.errors.items) f))
+    let structure : c.into_faults.result ≡ c.args.structure ++ end = search rules in
+    subst (λ (l : List Fault). IfOk c.faults_of_both.result (λ v. (f : Fault) → Contains v f ↔ Contains (l ++ c.args.errors) f))
     structure c.faults_of_both.ensures

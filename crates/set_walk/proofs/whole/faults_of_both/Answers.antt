@@ -10,14 +10,14 @@ turned xs ys f h =
 
 pub returns-then-len : goal.returns-then-len
 returns-then-len c f =
-    let all : c.append.new.self.items ≡ c.args.errors.items ++ c.args.structure.items = search rules in (
-      λ h. turned c.args.structure.items c.args.errors.items f (subst (λ (l : List Fault). Contains l f) all h),
-      λ h. subst (λ (l : List Fault). Contains l f) (sym all) (turned c.args.errors.items c.args.structure.items f h),
+    let all : c.append.new.self ≡ c.args.errors ++ c.args.structure = search rules in (
+      λ h. turned c.args.structure c.args.errors f (subst (λ (l : List Fault). Contains l f) all h),
+      λ h. subst (λ (l : List Fault). Contains l f) (sym all) (turned c.args.errors c.args.structure f h),
     )
 
 pub returns : goal.returns
 returns c f =
-    let all : c.append-2.new.self.items ≡ c.args.structure.items ++ c.args.errors.items = search rules in (
+    let all : c.append-2.new.self ≡ c.args.structure ++ c.args.errors = search rules in (
       λ h. subst (λ (l : List Fault). Contains l f) all h,
       λ h. subst (λ (l : List Fault). Contains l f) (sym all) h,
     )

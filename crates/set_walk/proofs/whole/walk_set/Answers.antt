@@ -38,7 +38,7 @@ with_order-requires c =
     let walked = walked_whole (guide_of rows) set.delims set.closed c.in-Some.header c.loop-seg.seen c.loop-seg.invariant.0
     c.loop-seg.segs.left (span_views c.args.text.now set) c.in_ok-close.field-0 c.in-Some-2.walked c.loop-seg.invariant.1
     c.loop-seg.invariant.2 c.in_default-next_segment.ensures.next.0 c.in_ok-close.ensures.walked c.in-Some-2.is in
-    body_keyed rows (subst IsAccepted c.guide.ensures c.rows-rows.ensures.accepted) walked.body c.in-Some-2.walked.faults.items
+    body_keyed rows (subst IsAccepted c.guide.ensures c.rows-rows.ensures.accepted) walked.body c.in-Some-2.walked.faults
     walked.faults
 
 pub returns-clause-walked : goal.returns-clause-walked

@@ -1,5 +1,5 @@
 use Rattle.std.proofs.Common.{◌≡◌, drop}
-use Rattle.checked_text.specs.Acknowledgments.{has_any, present}
+use Rattle.set_answers.specs.Acknowledgments.{has_any, present}
 use Rattle.track_table.proofs.noted.has_any.Given as goal
 
 abbrev pub invariant-loop-group : goal.invariant-loop-group

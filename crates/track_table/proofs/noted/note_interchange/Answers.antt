@@ -1,8 +1,8 @@
 use Rattle.std.proofs.Common.{◌≡◌, ℕ, List, Option, refl, sym, ap, ◌∙◌}
 use Rattle.env_index.specs.Words.{InterchangeEntry}
 use Rattle.partner_setup.specs.Setup.{sender_of}
-use Rattle.checked_text.specs.declared.answered.AnsweredGroup.{AnsweredGroup}
-use Rattle.checked_text.specs.CheckedText.{CheckedInterchange}
+use Rattle.set_answers.specs.declared.answered.AnsweredGroup.{AnsweredGroup}
+use Rattle.set_answers.specs.CheckedText.{CheckedInterchange}
 use Rattle.track_table.proofs.noted.note_interchange.Goals as goal
 
 pub returns : goal.returns

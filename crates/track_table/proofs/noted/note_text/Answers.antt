@@ -2,9 +2,9 @@ use Rattle.std.proofs.Common.{◌≡◌, ℕ, ◌+◌, List, [], ◌∷◌, ◌+
 use Rattle.std.specs.Prelude.{slice_get}
 use Rattle.std.proofs.lemmas.Option.{slice_get_read}
 use Rattle.env_index.specs.Words.{IndexEntry, HasSpans}
-use Rattle.judged_text.specs.Judged.{JudgedValue}
-use Rattle.checked_text.specs.CheckedText.{CheckedInterchange, IsCheckedAs, judged}
-use Rattle.checked_text.proofs.ForAbove.{at_index, map_snoc, no_pairs, pairs_more}
+use Rattle.answered_sets.specs.Judged.{JudgedValue}
+use Rattle.set_answers.specs.CheckedText.{CheckedInterchange, IsCheckedAs, judged}
+use Rattle.set_answers.proofs.ForAbove.{at_index, map_snoc, no_pairs, pairs_more}
 use Rattle.track_table.specs.Noted.{notes_of}
 use Rattle.track_table.specs.declared.notes.Notes.{Notes}
 use Rattle.track_table.proofs.noted.note_text.Goals as goal

@@ -1,6 +1,6 @@
 use Rattle.std.proofs.Common.{◌≡◌, List, length, map}
-use Rattle.checked_text.specs.CheckedText.{CheckedInterchange, IsCheckedAs, judged}
-use Rattle.checked_text.specs.Pairs.{ArePairs}
+use Rattle.set_answers.specs.CheckedText.{CheckedInterchange, IsCheckedAs, judged}
+use Rattle.set_answers.specs.Pairs.{ArePairs}
 use Rattle.track_table.specs.Noted.{notes_of}
 use Rattle.track_table.proofs.noted.note_text.Given as goal
 

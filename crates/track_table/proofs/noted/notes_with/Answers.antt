@@ -1,9 +1,9 @@
 use Rattle.std.proofs.Common.{◌≡◌, ℕ, ◌||◌, Bool, List, Option, None, cond, is_some, option_map, refl, Some, map, sym, ap, ◌∙◌}
 use Rattle.env_index.specs.Words.{IndexEntry, InterchangeEntry}
-use Rattle.checked_text.specs.Acknowledgments.{has_any, present}
-use Rattle.checked_text.specs.declared.answered.AnsweredGroup.{AnsweredGroup}
-use Rattle.checked_text.specs.CheckedText.{CheckedInterchange, recipient_of}
-use Rattle.judged_text.specs.Answered.{ta1_note}
+use Rattle.set_answers.specs.Acknowledgments.{has_any, present}
+use Rattle.set_answers.specs.declared.answered.AnsweredGroup.{AnsweredGroup}
+use Rattle.set_answers.specs.CheckedText.{CheckedInterchange, recipient_of}
+use Rattle.answered_sets.specs.Answered.{ta1_note}
 use Rattle.track_table.specs.AnswerNotes.{notes_by}
 use Rattle.track_table.specs.declared.notes.GroupNotes.{GroupNotes}
 use Rattle.track_table.specs.declared.notes.Notes.{Notes}

@@ -2,7 +2,7 @@ use Rattle.std.proofs.Common.{◌≡◌, ℕ, ◌+◌, ◌<◌, List, [], ◌++�
 use Rattle.std.specs.Prelude.{slice_get}
 use Rattle.std.proofs.lemmas.List.{take_all}
 use Rattle.std.proofs.lemmas.Option.{slice_get_read}
-use Rattle.judged_text.specs.Judged.{JudgedValue}
+use Rattle.answered_sets.specs.Judged.{JudgedValue}
 use Rattle.csv_fields.specs.Csv.{table_text}
 use Rattle.track_table.specs.declared.notes.Notes.{Notes}
 use Rattle.track_table.specs.Rows.{TrackedBy, interchange_rows, rows_from}

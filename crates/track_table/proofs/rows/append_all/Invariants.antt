@@ -1,5 +1,5 @@
 use Rattle.std.proofs.Common.{◌≡◌, ◌++◌, [], take}
-use Rattle.judged_text.specs.Judged.{all_sets}
+use Rattle.answered_sets.specs.Judged.{all_sets}
 use Rattle.csv_fields.specs.Csv.{table_text}
 use Rattle.track_table.specs.Rows.{rows_from}
 use Rattle.track_table.specs.Walking.{AreBehind}

@@ -2,8 +2,8 @@ use Rattle.std.proofs.Common.{◌≡◌, ℕ, List, ◌++◌, refl, ap, ◌∙�
 use Rattle.std.proofs.lemmas.Result.{on_ok_weaker}
 use Rattle.env_index.specs.Words.{InterchangeEntry, GroupEntry}
 use Rattle.hub_kinds.specs.declared.set_codes.GroupVerdict.{GroupVerdict}
-use Rattle.judged_text.specs.Judged.{standing_at}
-use Rattle.judged_text.specs.declared.standing.GroupStanding.{GroupStanding}
+use Rattle.answered_sets.specs.Judged.{standing_at}
+use Rattle.answered_sets.specs.declared.standing.GroupStanding.{GroupStanding}
 use Rattle.csv_fields.specs.Csv.{cells_text}
 use Rattle.mailbox.proofs.ForAbove.{same_at}
 use Rattle.track_table.specs.Cells.{group_cells, interchange_cells}

@@ -1,7 +1,7 @@
 use Rattle.std.proofs.Common.{◌≡◌, ◌<◌, List, length, take, refl, ap, ◌∙◌, arith}
 use Rattle.std.proofs.lemmas.List.{take_all}
 use Rattle.env_index.specs.Words.{InterchangeEntry, GroupEntry}
-use Rattle.judged_text.specs.Judged.{sets_of_groups_from}
+use Rattle.answered_sets.specs.Judged.{sets_of_groups_from}
 use Rattle.mailbox.proofs.ForAbove.{there_is}
 use Rattle.csv_fields.specs.Csv.{table_text}
 use Rattle.track_table.specs.Rows.{groups_rows}

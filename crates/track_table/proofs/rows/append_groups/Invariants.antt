@@ -1,5 +1,5 @@
 use Rattle.std.proofs.Common.{◌≡◌, length, take}
-use Rattle.judged_text.specs.Judged.{sets_of_groups_from}
+use Rattle.answered_sets.specs.Judged.{sets_of_groups_from}
 use Rattle.csv_fields.specs.Csv.{table_text}
 use Rattle.track_table.specs.Rows.{groups_rows}
 use Rattle.track_table.specs.Walking.{HasRows}

@@ -1,6 +1,6 @@
 use Rattle.std.proofs.Common.{◌≡◌, ℕ, List, [], ◌∷◌, ◌++◌, Bool, true, false, cond, refl, sym, ap, ◌∙◌, append-nil}
 use Rattle.std.proofs.lemmas.Result.{on_ok_weaker}
-use Rattle.judged_text.specs.Judged.{is_refused}
+use Rattle.answered_sets.specs.Judged.{is_refused}
 use Rattle.csv_fields.specs.Csv.{record_text, table_text}
 use Rattle.track_table.specs.Rows.{groups_rows, refused_row}
 use Rattle.track_table.proofs.Targets.{behind_refused}

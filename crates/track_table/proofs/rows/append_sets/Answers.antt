@@ -6,7 +6,7 @@ use Rattle.env_index.specs.Words.{InterchangeEntry, GroupEntry}
 use Rattle.env_index.specs.declared.entry.SetEnvelope.{SetEnvelope}
 use Rattle.partner_setup.specs.Setup.{route_of}
 use Rattle.partner_setup.specs.Sound.{AreWithin}
-use Rattle.judged_text.specs.Judged.{PlacedValue, sets_from, standing_at}
+use Rattle.answered_sets.specs.Judged.{PlacedValue, sets_from, standing_at}
 use Rattle.mailbox.proofs.ForAbove.{same_at, there_is}
 use Rattle.track_table.specs.Rows.{TrackedBy}
 use Rattle.track_table.specs.Walking.{sets_text}

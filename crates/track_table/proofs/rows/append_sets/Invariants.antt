@@ -1,7 +1,7 @@
 use Rattle.std.proofs.Common.{◌≡◌, Some, length, take}
 use Rattle.std.specs.Prelude.{slice_get}
 use Rattle.env_index.specs.Words.{GroupEntry}
-use Rattle.judged_text.specs.Judged.{sets_from, standing_at}
+use Rattle.answered_sets.specs.Judged.{sets_from, standing_at}
 use Rattle.track_table.specs.Walking.{HasRows, sets_text}
 use Rattle.track_table.proofs.rows.append_sets.Given as goal
 

@@ -1,5 +1,5 @@
 use Rattle.std.proofs.Common.{◌≡◌, ◌++◌, List, length, take}
-use Rattle.judged_text.specs.Judged.{PlacedValue}
+use Rattle.answered_sets.specs.Judged.{PlacedValue}
 use Rattle.track_table.specs.Walking.{AreAmid, AreBehind, outcome_texts}
 use Rattle.track_table.proofs.rows.append_targets.Given as goal
 

@@ -1,7 +1,7 @@
 use Rattle.std.proofs.Common.{List, [], Option, length, ap, ◌∙◌}
 use Rattle.std.proofs.lemmas.Result.{IfOk-weaker}
 use Rattle.hub_kinds.specs.declared.interchange.InterchangeFault.{InterchangeFault}
-use Rattle.checked_text.proofs.ForAbove.{faults_length, settled_spans}
+use Rattle.set_answers.proofs.ForAbove.{faults_length, settled_spans}
 use Rattle.track_table.proofs.Tracked.{track_of}
 use Rattle.track_table.proofs.track.track_plain.Goals as goal
 

@@ -1,6 +1,6 @@
 use Rattle.std.proofs.Common.{ℕ, List, sym, subst}
-use Rattle.batch_cut.specs.Scouting.{Stands}
-use Rattle.batch_cut.proofs.ForAbove.{stands_on}
+use Rattle.whole_interchanges.specs.Scouting.{Stands}
+use Rattle.whole_interchanges.proofs.ForAbove.{stands_on}
 use Rattle.trial_streams.proofs.windows.ends.Goals as goal
 
 pub advance-ahead-requires : goal.advance-ahead-requires

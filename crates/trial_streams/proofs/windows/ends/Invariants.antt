@@ -1,4 +1,4 @@
-use Rattle.batch_cut.specs.Scouting.{Stands}
+use Rattle.whole_interchanges.specs.Scouting.{Stands}
 use Rattle.trial_streams.proofs.windows.ends.Given as goal
 
 abbrev pub invariant-loop : goal.invariant-loop

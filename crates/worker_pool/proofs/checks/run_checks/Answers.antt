@@ -4,8 +4,8 @@ use Rattle.std.proofs.Crossing.{crosses}
 use Rattle.worker_pool.proofs.Crossing.{job_row_sync}
 use Rattle.worker_pool.proofs.checks.run_checks.Goals as goal
 
-pub checks_named-requires-send-K-Done : goal.checks_named-requires-send-K-Done
-checks_named-requires-send-K-Done g c κs within = search (checked_send, crosses, sendable) depth 60 fits 20000
+pub checks_branded-requires-send-K-Done : goal.checks_branded-requires-send-K-Done
+checks_branded-requires-send-K-Done g c κs within = search (checked_send, crosses, sendable) depth 60 fits 20000
 
-pub checks_named-requires-sync-K : goal.checks_named-requires-sync-K
-checks_named-requires-sync-K g c κs within = search (job_row_sync, sendable) depth 60 fits 20000
+pub checks_branded-requires-sync-K : goal.checks_branded-requires-sync-K
+checks_branded-requires-sync-K g c κs within = search (job_row_sync, sendable) depth 60 fits 20000

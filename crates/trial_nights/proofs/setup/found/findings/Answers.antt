@@ -12,13 +12,13 @@ use Rattle.env_index.specs.Words.{IndexEntry, InterchangeEntry, HasSpans, span_o
 use Rattle.env_index.specs.declared.entry.SetEnvelope.{SetEnvelope}
 use Rattle.partner_setup.specs.Setup.{SetupValue, guide_for_set, sender_of}
 use Rattle.set_check.specs.Codes.{control_of}
-use Rattle.checked_text.specs.Answers.{SentValue, controls_of}
-use Rattle.checked_text.specs.Asked.{Asked, IsFound, asked_of, entry_asked, entry_asked_by, group_asked, groups_asked, has_places}
-use Rattle.checked_text.specs.Asked.{interchange_asked, is_duplicate, set_asked, sets_asked}
-use Rattle.checked_text.specs.CheckedText.{sent_by}
-use Rattle.checked_text.specs.Seen.{is_among}
-use Rattle.checked_text.specs.declared.finding.Finding.{Finding}
-use Rattle.checked_text.proofs.ForAbove.{at_index}
+use Rattle.set_answers.specs.Answers.{SentValue, controls_of}
+use Rattle.set_answers.specs.Asked.{Asked, IsFound, asked_of, entry_asked, entry_asked_by, group_asked, groups_asked, has_places}
+use Rattle.set_answers.specs.Asked.{interchange_asked, is_duplicate, set_asked, sets_asked}
+use Rattle.set_answers.specs.CheckedText.{sent_by}
+use Rattle.set_answers.specs.Seen.{is_among}
+use Rattle.set_answers.specs.declared.finding.Finding.{Finding}
+use Rattle.set_answers.proofs.ForAbove.{at_index}
 use Rattle.trial_nights.proofs.setup.found.findings.Goals as goal
 
 one_item : {A : Type 0} (xs : List A) (x : A) → length xs ≡ 1 → slice_get xs 0 ≡ Some x → xs ≡ x ∷ []

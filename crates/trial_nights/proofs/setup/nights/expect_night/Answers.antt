@@ -1,6 +1,6 @@
 use Rattle.std.proofs.Common.{List, [], Option, length, ap, ◌∙◌}
 use Rattle.hub_kinds.specs.declared.interchange.InterchangeFault.{InterchangeFault}
-use Rattle.checked_text.proofs.ForAbove.{faults_length, settled_spans}
+use Rattle.set_answers.proofs.ForAbove.{faults_length, settled_spans}
 use Rattle.trial_nights.proofs.setup.nights.expect_night.Goals as goal
 
 pub settle-requires : goal.settle-requires

@@ -1,0 +1,8 @@
+use Rattle.std.proofs.Common.{◌≡◌, ◌++◌, take}
+use Rattle.std.specs.List.{flat_map}
+use Rattle.ack_lines.specs.Lines.{group_code_line}
+use Rattle.ack_lines.proofs.lines.append_group_codes.Given as goal
+
+abbrev pub invariant-loop-code : goal.invariant-loop-code
+invariant-loop-code l =
+    l.out.items ≡ l.initial.out.items ++ flat_map (group_code_line l.head l.verdict) (take l.code-index l.codes)

@@ -1,5 +1,0 @@
-use Rattle.batch_cut.proofs.Chains.{none_behind}
-use Rattle.batch_cut.proofs.laws.header_shows_early.Goals as goal
-
-pub returns : goal.returns
-returns c = λ read more at le none closed. none_behind read more at le none closed

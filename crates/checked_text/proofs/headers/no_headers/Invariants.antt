@@ -1,5 +1,0 @@
-use Rattle.std.proofs.Common.{◌≡◌, replicate, None}
-use Rattle.checked_text.proofs.headers.no_headers.Given as goal
-
-abbrev pub invariant-loop : goal.invariant-loop
-invariant-loop l = l.headers.items ≡ replicate l.counter None

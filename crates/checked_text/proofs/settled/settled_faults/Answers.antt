@@ -1,7 +1,0 @@
-use Rattle.std.proofs.Common.{[], sym, ◌∙◌}
-use Rattle.checked_text.proofs.Numbered.{by_numbers}
-use Rattle.checked_text.proofs.settled.settled_faults.Goals as goal
-
-pub returns : goal.returns
-returns c =
-    c.in_ok-faults.ensures [] c.new.ensures ∙ sym (by_numbers c.args.setup.now [] c.args.index.now.entries)

@@ -1,5 +1,0 @@
-pub mod Behind
-pub mod ForAbove
-pub mod InSpans
-pub mod Stretch
-mod WorkedAnswers

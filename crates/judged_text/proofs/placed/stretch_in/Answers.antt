@@ -1,7 +1,0 @@
-use Rattle.std.proofs.Common.{ap, sym, ◌∙◌}
-use Rattle.std.specs.List.{list_any}
-use Rattle.judged_text.proofs.Stretch.{none_in_span}
-use Rattle.judged_text.proofs.placed.stretch_in.Goals as goal
-
-pub returns : goal.returns
-returns c test h = none_in_span c.args.text.now c.args.span.now test (ap (list_any test) (sym c.stretch_of.ensures) ∙ h)

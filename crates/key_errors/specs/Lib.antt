@@ -1,0 +1,15 @@
+pub mod Holds
+pub mod KeyForms
+pub mod KeyTables
+pub mod KeyWords
+pub mod KeysSaid
+pub mod ListItems
+pub mod NoTables
+pub mod NodeTables
+pub mod Rows
+pub mod Seen
+pub mod Shown
+pub mod Spots
+pub mod StopWords
+pub mod TextPlaces
+pub mod Wanted

@@ -1,5 +1,0 @@
-use Rattle.night_ends.proofs.Signs.{line_of_signs}
-use Rattle.night_ends.proofs.mistake.mistake_found.Goals as goal
-
-pub returns : goal.returns
-returns c = line_of_signs c.as_bytes.result.now c.in_one_line.result c.in_one_line.ensures

@@ -1,8 +1,0 @@
-use Rattle.std.proofs.Common.{◌-◌, map, drop, length}
-use Rattle.partner_setup.specs.Tables.{KeepsPlaces}
-use Rattle.night_findings.specs.Keys.{key_at}
-use Rattle.night_findings.proofs.table.table_of.Given as goal
-
-abbrev pub invariant-loop-behind : goal.invariant-loop-behind
-invariant-loop-behind l =
-    KeepsPlaces l.table (length l.places - l.behind) (map (key_at l.guides) (drop (length l.places - l.behind) l.places))

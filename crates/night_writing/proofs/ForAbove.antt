@@ -1,3 +1,0 @@
--- The lemmas of this crate on which those above it stand.
-pub use Rattle.night_writing.proofs.Joining.{night_of_written, rendered_length}
-pub use Rattle.night_writing.proofs.Starting.{first_written, nothing_acknowledged, nothing_is_written}

@@ -1,6 +1,0 @@
-use Rattle.std.proofs.Common.{◌≡◌, map}
-use Rattle.checked_text.specs.CheckedText.{SentValues}
-use Rattle.night_writing.proofs.writing.texts_of.Given as goal
-
-abbrev pub invariant-loop-file : goal.invariant-loop-file
-invariant-loop-file l = l.texts.items ≡ map (λ (f : SentValues). f.text) l.yielded

@@ -1,6 +1,0 @@
-use Rattle.std.proofs.Common.{◌≡◌, ◌++◌, ◌+◌, drop}
-use Rattle.refusal_words.specs.GuideWords.{elements_words}
-use Rattle.refusal_words.proofs.guide_words.append_elements.Given as goal
-
-abbrev pub invariant-loop-i : goal.invariant-loop-i
-invariant-loop-i l = l.out.items ++ elements_words (l.i + 1) (drop l.i l.elements) ≡ l.initial.out.items ++ elements_words 1 l.elements

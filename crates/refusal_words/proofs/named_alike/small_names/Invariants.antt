@@ -1,6 +1,0 @@
-use Rattle.std.proofs.Common.{◌≡◌, map, take}
-use Rattle.refusal_words.specs.NamedAlike.{small_name}
-use Rattle.refusal_words.proofs.named_alike.small_names.Given as goal
-
-abbrev pub invariant-loop-i : goal.invariant-loop-i
-invariant-loop-i l = l.names.items ≡ map small_name (take l.i l.partners)

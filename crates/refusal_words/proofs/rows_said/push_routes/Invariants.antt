@@ -1,7 +1,0 @@
-use Rattle.std.proofs.Common.{◌≡◌, ◌+◌, ◌++◌, drop}
-use Rattle.refusal_words.specs.RowsSaid.{routes_said}
-use Rattle.refusal_words.proofs.rows_said.push_routes.Given as goal
-
-abbrev pub invariant-loop-i : goal.invariant-loop-i
-invariant-loop-i l =
-    l.found.items ++ routes_said l.names (l.i + 1) (drop l.i l.routes) ≡ l.initial.found.items ++ routes_said l.names 1 l.routes

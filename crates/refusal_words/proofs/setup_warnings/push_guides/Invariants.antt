@@ -1,7 +1,0 @@
-use Rattle.std.proofs.Common.{◌≡◌, ◌++◌, drop}
-use Rattle.refusal_words.specs.SetupWarnings.{guide_warnings}
-use Rattle.refusal_words.proofs.setup_warnings.push_guides.Given as goal
-
-abbrev pub invariant-loop-i : goal.invariant-loop-i
-invariant-loop-i l =
-    l.found.items ++ guide_warnings l.named (drop l.i l.guides) ≡ l.initial.found.items ++ guide_warnings l.named l.guides

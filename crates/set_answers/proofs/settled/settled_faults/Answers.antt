@@ -1,0 +1,7 @@
+use Rattle.std.proofs.Common.{[], sym, ◌∙◌}
+use Rattle.set_answers.proofs.Numbered.{by_numbers}
+use Rattle.set_answers.proofs.settled.settled_faults.Goals as goal
+
+pub returns : goal.returns
+returns c =
+    c.in_ok-faults.ensures [] c.new.ensures ∙ sym (by_numbers c.args.setup.now [] c.args.index.now.entries)

@@ -1,0 +1,16 @@
+pub mod Acknowledgments
+pub mod Answers
+pub mod Asked
+pub mod CheckedText
+pub mod Counted
+pub mod Ends
+pub mod FirstUse
+pub mod Halves
+pub mod Headers
+pub mod Known
+pub mod Shares
+pub mod Pairs
+pub mod Seen
+pub mod SentAfter
+pub mod Settled
+pub mod Standings

@@ -1,0 +1,56 @@
+use set_check::CheckedSet;
+use std::marker::Model;
+use std::vec::IntoIter;
+
+/// What was found out about a place of an index: of a set how it was checked, and whether an earlier place has its number.
+#[derive(Drop)]
+pub struct Finding<'a> {
+    /// The set, once it was checked; none of an interchange or a group.
+    pub checked: Option<CheckedSet<'a>>,
+    /// Whether an earlier place has the number of this one.
+    pub earlier: bool,
+}
+
+/// What was found out about places that are still to come, in their order.
+#[derive(Drop)]
+pub(crate) struct Findings<'a> {
+    rest: IntoIter<Finding<'a>>,
+}
+
+impl<'a> Model for Findings<'a> {
+    ghost use Rattle.std.specs.Prelude.{List};
+    ghost use Rattle.std.specs.Vec.Iter.{into_iter_items};
+    ghost use Rattle.set_answers.specs.declared.finding.Finding.{Finding};
+    ghost use Rattle.guide_tree.specs.contracts.node.Node as node;
+    ghost use Rattle.std.specs.Coded.{codes};
+
+    ghost Value = { List Finding };
+
+    ghost coded = { Prim.hlevel (codes, node.the_row.coded) };
+
+    ghost view = { λ f. into_iter_items f.rest };
+}
+
+impl<'a> Findings<'a> {
+    ghost use Rattle.std.specs.Prelude.{◌≡◌, ◌∷◌, List};
+    ghost use Rattle.set_answers.specs.declared.finding.Finding.{Finding};
+
+    pub(crate) fn new(list: Vec<Finding<'a>>) -> Findings<'a>
+        ensures { result ≡ list.entry.items }
+    {
+        Findings {
+            rest: list.into_iter(),
+        }
+    }
+
+    /// The next one.
+    pub(crate) fn take(&mut self) -> Finding<'a>
+        requires { (first : Finding) × (more : List Finding) × (self.old ≡ first ∷ more) }
+        ensures { self.old ≡ result ∷ self.new }
+    {
+        match self.rest.next() {
+            Some(finding) => finding,
+            None => unreachable!(),
+        }
+    }
+}

@@ -1,0 +1,14 @@
+pub mod Adding
+pub mod Answering
+pub mod Asking
+pub mod Crossing
+pub mod FewSets
+pub mod ForAbove
+pub mod Placing
+pub mod Same
+pub mod Seeing
+pub mod Settling
+pub mod Starting
+pub mod Tabled
+pub mod Telling
+pub mod Zipped
