@@ -200,6 +200,11 @@ WARNED = {
         + nodes(segment("HL", 1, 1, '628 M AN 1 12", "734 O AN 1 12", "735 M ID 1 2 = S P', 'label="HL", '),
                 segment("MAN", more='label="MAN", ')),
         ["dependency 1: the code X isn't one of element 3 of segment 1 (HL)"]),
+    "a dependency of the second segment": (
+        DEPENDS.replace('"P"', '"P", "X"')
+        + nodes(segment(), segment("HL", 1, 1, '628 M AN 1 12", "734 O AN 1 12", "735 M ID 1 2 = S P', 'label="HL", '),
+                segment("MAN", more='label="MAN", ')),
+        ["dependency 1: the code X isn't one of element 3 of segment 2 (HL)"]),
     "a code used and not used": (elements("128 M ID 2 3 = DP ! DP"), [f"{CODE} DP is listed as used and as not used"]),
     "a pick of no code": (nodes(segment(element="128 M ID 2 3 = DP", more='pick=["1 DP IA"], ')),
                           [f"{CODE} IA of `pick` isn't one of the element's codes"]),

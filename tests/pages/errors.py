@@ -16,6 +16,11 @@ def replaced(text, old, new):
     return text.replace(old, new, 1)
 
 
+def refusal(line, status=3, **given):
+    """What a night says that is refused by one line, and what is wanted: the line alone, and no file."""
+    return night(**given), (status, "", line, {})
+
+
 def words_of(out, text=os.path.join(EXAMPLES, "night", "two_partners.x12"), at="202603011530"):
     night_of, guides_of = os.path.join(EXAMPLES, "night"), os.path.join(EXAMPLES, "guides")
     guides = [part for name in ("h850.toml", "h856.toml") for part in ("--guide", os.path.join(guides_of, name))]
@@ -38,7 +43,15 @@ def words(page, out):
         page.want(f"{option} twice", run([*whole, *pair]), USAGE)
         page.want(f"{option} without a value", run([*others, option]), USAGE)
     page.want("no --guide", run([it for it in whole if it != "--guide" and not it.endswith(("h850.toml", "h856.toml"))]), USAGE)
-    for at in ("202602291530", "20260301153", "2026030115300", "202603012430", "202603011560", "000001011530", "202600011530", "x"):
+    for more in (["--guide"], ["--threads", "4"], ["--inp", NOWHERE], ["-i", NOWHERE], [NOWHERE], [""], ["--", NOWHERE], ["--workers", "0"],
+                 ["--workers", "65"], ["--workers", "four"], ["--workers", "4", "--workers", "4"], ["--piece", "0"], ["--piece", "4294967296"],
+                 ["--piece", "53", "--piece", "53"]):
+        page.want(f"and {' '.join(more)!r}", run([*whole, *more]), USAGE)
+    for more in (["--workers", "64"], ["--piece", "1"], ["--piece", "4294967295"]):
+        page.want(f"and {' '.join(more)}", run([*whole, *more]), (0, TOTAL, ""))
+    page.want("help names each option", [it for it in (*OPTIONS, "--guide", "NAME.ack and NAME.box") if it not in run(["--help"])[1]], [])
+    for at in ("202602291530", "20260301153", "2026030115300", "202603012400", "202603012430", "202603011560", "202613011530", "000001011530",
+               "202600011530", "2026-3-11530", "20260301153x", "", "x"):
         page.want(f"--at {at}", run(words_of(out, at=at)), USAGE)
     page.want("the first moment", run(words_of(out, at="000101010000"))[0], 0)
     page.want("words that are no UTF-8", run([b"--in", b"\xff"]), USAGE)
@@ -59,7 +72,9 @@ def many(count):
 
 
 def guides(page):
-    page.want("a guide that isn't there", night(guides=[NOWHERE])[:3], (3, "", f"nighthub: guide {NOWHERE} 0\n"))
+    page.want("a guide that isn't there", *refusal(f"nighthub: guide {NOWHERE} 0\n", guides=[NOWHERE]))
+    page.want("a folder as a guide", *refusal(f"nighthub: guide {EXAMPLES} 0\n", guides=[EXAMPLES]))
+    page.want("a second guide that isn't there", *refusal(f"nighthub: guide {NOWHERE} 0\n", guides=[H850, NOWHERE]))
     refused = {
         "1": "name =",
         "2": "",
@@ -73,9 +88,9 @@ def guides(page):
         "5.6": SMALL.replace('"324 M AN 1 22"]', '"324 M AN 1 22"], conditions=["R02"]'),
     }
     for number, guide in refused.items():
-        page.want(f"guide {number}", night(guides=[guide])[:3], (3, "", f"nighthub: guide HERE/guide_0.toml {number}\n"))
+        page.want(f"guide {number}", *refusal(f"nighthub: guide HERE/guide_0.toml {number}\n", guides=[guide]))
     for name, guide in (("loops nested eight deep", loops(8)), ("2,000 nodes", many(2000))):
-        page.want(name, night(guides=[guide])[:3], (3, "", "nighthub: setup 4\n"))
+        page.want(name, *refusal("nighthub: setup 4\n", guides=[guide]))
 
 
 SETUP_FILES = {
@@ -131,23 +146,36 @@ COUNTERS_OF_SETUPS = {
 
 def setups(page):
     for name, (setup, number) in SETUP_FILES.items():
-        page.want(f"setup file: {name}", night(setup=setup)[:3], (3, "", f"nighthub: setup file {number}\n"))
+        page.want(f"setup file: {name}", *refusal(f"nighthub: setup file {number}\n", setup=setup))
     for name, (counters, number) in COUNTERS_FILES.items():
-        page.want(f"counters file: {name}", night(counters=counters)[:3], (3, "", f"nighthub: counters file {number}\n"))
+        page.want(f"counters file: {name}", *refusal(f"nighthub: counters file {number}\n", counters=counters))
     for name, (setup, number) in SETUPS.items():
-        page.want(f"setup: {name}", night(setup=setup)[:3], (3, "", f"nighthub: setup {number}\n"))
+        page.want(f"setup: {name}", *refusal(f"nighthub: setup {number}\n", setup=setup))
     for name, counters in COUNTERS_OF_SETUPS.items():
-        page.want(f"setup: {name}", night(counters=counters)[:3], (3, "", "nighthub: setup 6\n"))
+        page.want(f"setup: {name}", *refusal("nighthub: setup 6\n", counters=counters))
     page.want("counters of version 1", night(counters=replaced(COUNTERS.replace("group = 1\n", ""), "version = 2", "version = 1"))[:3], (0, TOTAL, ""))
-    page.want("two guides of one name", night(guides=[H850, H850])[:3], (3, "", "nighthub: setup 4\n"))
+    page.want("two guides of one name", *refusal("nighthub: setup 4\n", guides=[H850, H850]))
     both, again = replaced(SETUP, 'guides = ["H850"]', 'guides = ["H850", "X850"]'), H850.replace('name = "H850"', 'name = "X850"')
-    page.want("two guides for one set", night(setup=both, guides=[H850, H856, again])[:3], (3, "", "nighthub: setup 4\n"))
+    page.want("two guides for one set", *refusal("nighthub: setup 4\n", setup=both, guides=[H850, H856, again]))
+
+
+def first_refusals(page):
+    """Of several wrong files the first is reported: the guides in their order, the setup, the counters, what they make, the input."""
+    cap = replaced(SETUP, "cap = 2", "cap = 0")
+    for name, line, given in (
+        ("a guide before another", f"guide {NOWHERE} 0", {"guides": [NOWHERE, ""], "setup": NOWHERE, "text": NOWHERE}),
+        ("a guide before the setup", "guide HERE/guide_1.toml 2", {"guides": [H850, ""], "setup": NOWHERE, "counters": NOWHERE, "text": NOWHERE}),
+        ("the setup before the counters", "setup file 2", {"setup": "\n", "counters": NOWHERE, "text": NOWHERE}),
+        ("the counters before what is made", "counters file 2", {"setup": cap, "counters": "\n", "text": NOWHERE}),
+        ("what is made before the input", "setup 7", {"setup": cap, "text": NOWHERE}),
+    ):
+        page.want(f"first: {name}", *refusal(f"nighthub: {line}\n", **given))
 
 
 def input_and_output(page, out):
     page.want("bytes outside", night(text="HELLO" + INPUT)[:3], (1, TOTAL.replace("outside 0", "outside 5"), ""))
-    page.want("no input", night(text=NOWHERE)[:3], (4, "", "nighthub: input\n"))
-    page.want("a folder as input", night(text=EXAMPLES)[:3], (4, "", "nighthub: input\n"))
+    page.want("no input", *refusal("nighthub: input\n", 4, text=NOWHERE))
+    page.want("a folder as input", *refusal("nighthub: input\n", 4, text=EXAMPLES))
     page.want("no folder", night(out=NOWHERE)[:3], (5, "", "nighthub: output ACME.ack\n"))
     with open("/dev/full", "wb") as full:
         done = subprocess.run([PROGRAM, "--version"], stdout=full, stderr=subprocess.PIPE)
@@ -175,6 +203,7 @@ def examples():
     words(page, out)
     guides(page)
     setups(page)
+    first_refusals(page)
     input_and_output(page, out)
     let_go()
     return page
