@@ -7,7 +7,7 @@ use Rattle.hub_kinds.specs.Words.{AreRising}
 use Rattle.x12_segs.specs.Words.{SegValue}
 use Rattle.x12_segs.specs.declared.set_span.SetSpan.{SetSpan}
 use Rattle.guide_tree.specs.declared.rows.GuideRows.{GuideRows}
-use Rattle.set_check.specs.declared.envelope.Envelope.{Envelope}
+use Rattle.set_walk.specs.declared.ends.Ends.{Ends}
 use Rattle.set_check.specs.Checked.{IsChecked, guide_tree_of}
 use Rattle.set_check.specs.Codes.{set_codes_of}
 use Rattle.set_check.specs.Envelope.{IsEnvelopeOf}
@@ -15,7 +15,7 @@ use Rattle.set_check.specs.MeetsLaw.{IsWellGuided}
 use Rattle.set_check.specs.SetFaults.{AreSetFaults, codes_with}
 use Rattle.set_check.specs.SetParts.{SetParts, set_parts, segments_of_set}
 
-codes_by : (guide : Option GuideRows) (parts : SetParts) (faults told : List Fault) (e : Envelope) (trailer : Option SegValue)
+codes_by : (guide : Option GuideRows) (parts : SetParts) (faults told : List Fault) (e : Ends) (trailer : Option SegValue)
     (codes : List SetCode) → IsEnvelopeOf parts e → told ≡ faults → trailer ≡ e.trailer
     → codes ≡ set_codes_of told (guide_tree_of guide) e.header e.segments trailer false → codes ≡ codes_with
     (guide_tree_of guide) parts faults
@@ -27,7 +27,7 @@ codes_by guide parts faults told e trailer codes of t l is =
     ∙ ap (λ (x : Option SegValue). set_codes_of faults (guide_tree_of guide) parts.header (segments_of_set parts) x false) (l ∙ of.trailer)
 
 pub put_down : (text : List ℕ) (span : SetSpan) (guide : Option GuideRows) (faults told kept : List Fault)
-    (e : Envelope) (trailer : Option SegValue) (codes kept_codes : List SetCode)
+    (e : Ends) (trailer : Option SegValue) (codes kept_codes : List SetCode)
     → IsWellGuided (guide_tree_of guide) → AreSetFaults (guide_tree_of guide) (set_parts text span) faults → AreRising faults
     → IsEnvelopeOf (set_parts text span) e → told ≡ faults
     → trailer ≡ e.trailer → codes ≡ set_codes_of told (guide_tree_of guide) e.header e.segments trailer false
@@ -42,7 +42,7 @@ put_down text span guide faults told kept e trailer codes kept_codes w f r of t 
       ∙ ap (codes_with (guide_tree_of guide) (set_parts text span)) (sym k);
 }
 
-pub kept_envelope : {A : Type 0} (o : Option A) (view : A → Envelope) (parts : SetParts) (e : Envelope) → IfSome o (λ f. view f ≡ e)
+pub kept_envelope : {A : Type 0} (o : Option A) (view : A → Ends) (parts : SetParts) (e : Ends) → IfSome o (λ f. view f ≡ e)
     → IsEnvelopeOf parts e → IfSome o (λ f. IsEnvelopeOf parts (view f))
 kept_envelope None view parts e h of = h
 kept_envelope (Some f) view parts e h of = subst (IsEnvelopeOf parts) (sym h) of

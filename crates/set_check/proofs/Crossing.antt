@@ -9,7 +9,7 @@ use Rattle.guide_tree.proofs.rows.HlRule.TheSendSync as hl
 use Rattle.guide_tree.proofs.slot.Slot.TheSendSync as slot
 use Rattle.hub_kinds.proofs.faults.Faults.TheSendSync as faults
 use Rattle.hub_kinds.proofs.set_codes.SetCode.TheSendSync as code
-use Rattle.set_check.proofs.envelope.Envelope.TheSendSync as envelope
+use Rattle.set_walk.proofs.ends.Ends.TheSendSync as ends
 use Rattle.set_check.specs.contracts.checked.CheckedSet as checked
 use Rattle.std.proofs.Crossing.{crosses}
 use Rattle.std.proofs.vec.Vec.TheSendSync as vec
@@ -25,7 +25,7 @@ checked_send κ =
       slot.the_field_sync,
       faults.the_send,
       code.the_send,
-      envelope.the_field_send,
+      ends.the_field_send,
       vec.the_sync,
       span.the_field_send,
       crosses,

@@ -6,7 +6,7 @@ use Rattle.std.proofs.lemmas.List.{length-map, length-take, length-drop}
 use Rattle.std.proofs.lemmas.Option.{slice_get_cases}
 use Rattle.x12_bytes.specs.declared.delims.Delims.{Delims}
 use Rattle.x12_segs.specs.Words.{SegValue, elements_of}
-use Rattle.set_check.specs.declared.envelope.Envelope.{Envelope}
+use Rattle.set_walk.specs.declared.ends.Ends.{Ends}
 use Rattle.set_check.specs.Envelope.{IsEnvelopeOf}
 use Rattle.set_check.specs.SetParts.{SetParts, before_trailer, inner_of, set_trailer_of, parts_of, no_segment, segments_of_set}
 
@@ -42,7 +42,7 @@ first_of zero segs header e h k is = absurd (omega arith)
 first_of (suc m) [] header e h k is = absurd (omega arith)
 first_of (suc m) (s ∷ segs) header e h k is = is
 
-pub envelope_is : (d : Delims) (closed : Bool) (segs left : List SegValue) (e : Envelope) → 1 ≤ length segs
+pub envelope_is : (d : Delims) (closed : Bool) (segs left : List SegValue) (e : Ends) → 1 ≤ length segs
     → 1 ≤ before_trailer closed (length segs) → left ≡ take (before_trailer closed (length segs)) segs
     → e.header ≡ slice_index_or left 0 e.header → e.segments ≡ length segs → e.trailer ≡ set_trailer_of closed segs
     → IsEnvelopeOf (parts_of d closed segs) e

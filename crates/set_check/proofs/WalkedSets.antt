@@ -14,7 +14,6 @@ use Rattle.set_walk.specs.WalkedBody.{IsBodyFault, IsElementFaultIn, places_by}
 use Rattle.set_walk.specs.WalkedSet.{IsWalkedSet, trailer_list}
 use Rattle.set_walk.specs.declared.ends.Ends.{Ends}
 use Rattle.set_walk.specs.declared.walked.WalkedSet.{WalkedSet}
-use Rattle.set_check.specs.declared.envelope.Envelope.{Envelope}
 use Rattle.set_check.specs.Envelope.{IsEnvelopeOf}
 use Rattle.set_check.specs.SetFaults.{AreSetFaults, IsErrorIn, IsFaultUnder, IsRuleFault}
 use Rattle.set_check.specs.SetParts.{SetParts, before_trailer, inner_of, set_trailer_of, parts_of, end_position, no_segment}
@@ -138,17 +137,16 @@ module _ (g : GuideTree) (d : Delims) (closed : Bool) (segs : List SegValue) (w 
   pub walked_faults : AreSetFaults (Some g) (parts_of d closed segs) w.faults
   walked_faults = body_members g d closed segs read w.faults faults_are no_rule
 
-pub walked_ends : (g : GuideTree) (d : Delims) (closed : Bool) (segs : List SegValue) (w : WalkedSet) (v : Envelope)
-    → IsWalkedSet g d closed segs w → v.header ≡ w.ends.header → v.segments ≡ w.ends.segments → v.trailer ≡ w.ends.trailer
-    → IsEnvelopeOf (parts_of d closed segs) v
-walked_ends g d closed segs w v is h n t =
+pub walked_ends : (g : GuideTree) (d : Delims) (closed : Bool) (segs : List SegValue) (w : WalkedSet)
+    → IsWalkedSet g d closed segs w → IsEnvelopeOf (parts_of d closed segs) w.ends
+walked_ends g d closed segs w is =
     let e : Ends = w.ends in
     let some : 1 ≤ length segs = subst (λ (l : List SegValue). 1 ≤ length l) (sym is.segments) (omega arith) in
     let room : 1 ≤ before_trailer closed (length segs) =
     subst (λ (l : List SegValue). 1 ≤ before_trailer closed (length l)) (sym is.segments)
     (room_is closed e.header is.body e.trailer is.closed_is) in
     record {
-      header = h ∙ ap (λ (l : List SegValue). slice_index_or l 0 (no_segment d)) (sym is.segments);
-      segments = n ∙ is.count ∙ count_of d closed segs some room;
-      trailer = t ∙ trailer_is closed e.header is.body e.trailer is.closed_is ∙ ap (set_trailer_of closed) (sym is.segments);
+      header = ap (λ (l : List SegValue). slice_index_or l 0 (no_segment d)) (sym is.segments);
+      segments = is.count ∙ count_of d closed segs some room;
+      trailer = trailer_is closed e.header is.body e.trailer is.closed_is ∙ ap (set_trailer_of closed) (sym is.segments);
     }

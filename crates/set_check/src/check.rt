@@ -12,10 +12,11 @@ ghost use Rattle.x12_segs.specs.Words.{IsSetSpan};
 use crate::body::body_faults;
 use crate::checked::{CheckedSet, Found, is_without_fault};
 use crate::codes::set_codes;
-use crate::envelope::{Envelope, envelope_of};
+use crate::envelope::envelope_of;
 use crate::segments::segments_of;
 use guide_tree::Guide;
 use hub_kinds::{Faults, NoMemory};
+use set_walk::Ends;
 use std::alloc::Global;
 use std::boxed::Box;
 use x12_segs::{SegView, SetSpan};
@@ -56,7 +57,7 @@ pub(crate) fn checked_by<'a>(
     text: &'a [u8],
     set: SetSpan,
     guide: Option<&'a Guide>,
-    envelope: Envelope<'a>,
+    envelope: Ends<'a>,
     faults: Faults<'a>,
 ) -> Result<CheckedSet<'a>, NoMemory>
     requires span { IsSetSpan text.now set }

@@ -2,9 +2,10 @@ ghost use Rattle.std.specs.Prelude.{◌≡◌, ◌↔◌, IsTrue, []};
 ghost use Rattle.std.specs.Option.{option_map_or};
 ghost use Rattle.set_check.specs.Verdict.{is_without_fault};
 
-use crate::envelope::{Envelope, header_of};
+use crate::envelope::header_of;
 use guide_tree::Guide;
 use hub_kinds::{Faults, SetCode};
+use set_walk::Ends;
 use std::boxed::Box;
 use std::marker::Model;
 use x12_segs::SetSpan;
@@ -13,7 +14,7 @@ use x12_segs::SetSpan;
 #[derive(Drop)]
 pub(crate) struct Found<'a> {
     pub(crate) codes: Vec<SetCode>,
-    pub(crate) envelope: Envelope<'a>,
+    pub(crate) envelope: Ends<'a>,
 }
 
 /// A transaction set of a text that was checked, with what was found wrong with it: its faults and codes are those of its own

@@ -4,18 +4,8 @@ ghost use Rattle.set_check.specs.Envelope.{IsEnvelopeOf};
 ghost use Rattle.set_check.specs.SetParts.{before_trailer, parts_of, set_parts, set_trailer_of};
 ghost use Rattle.x12_segs.specs.Words.{IsSetSpan};
 
+use set_walk::Ends;
 use x12_segs::{SegView, SetSpan};
-
-/// What the codes of a set speak of beside its faults (X12.6, transaction set header and trailer).
-#[derive(Drop)]
-pub(crate) struct Envelope<'a> {
-    /// Its ST.
-    pub(crate) header: SegView<'a>,
-    /// How many segments it has, ST and SE among them.
-    pub(crate) segments: u64,
-    /// Its SE, if it has one.
-    pub(crate) trailer: Option<SegView<'a>>,
-}
 
 /// Takes the SE off the segments of a set, where it has one.
 fn take_trailer<'a>(closed: bool, segs: &mut Vec<SegView<'a>>) -> Option<SegView<'a>>
@@ -27,7 +17,7 @@ fn take_trailer<'a>(closed: bool, segs: &mut Vec<SegView<'a>>) -> Option<SegView
 }
 
 /// The first and the last segment of a set, and how many it has.
-pub(crate) fn envelope_of<'a>(closed: bool, segs: Vec<SegView<'a>>) -> Envelope<'a>
+pub(crate) fn envelope_of<'a>(closed: bool, segs: Vec<SegView<'a>>) -> Ends<'a>
     requires some { 1 ≤ length segs.items }
     requires room { 1 ≤ before_trailer closed (length segs.items) }
     ensures { (d : Delims) → IsEnvelopeOf (parts_of d closed segs.entry.items) result }
@@ -36,7 +26,7 @@ pub(crate) fn envelope_of<'a>(closed: bool, segs: Vec<SegView<'a>>) -> Envelope<
     let segments = segs.len() as u64;
     let trailer = take_trailer(closed, &mut segs);
     let header = segs.swap_remove(0);
-    Envelope {
+    Ends {
         header,
         segments,
         trailer,

@@ -12,7 +12,7 @@ ghost use Rattle.x12_segs.specs.Words.{IsSetSpan};
 use crate::body::body_faults_fast;
 use crate::check::checked_by;
 use crate::checked::CheckedSet;
-use crate::envelope::{Envelope, envelope_of};
+use crate::envelope::envelope_of;
 use crate::segments::segments_of;
 use guide_fast::FastGuide;
 use guide_tree::Guide;
@@ -40,8 +40,8 @@ pub fn check_set_fast<'a, 'g: 'a>(
     ensures meets { IfOk result (λ c. ((c.faults ≡ []) × (c.codes ≡ [])) ↔ MeetsAlone (guide_in c) (parts_in c)) }
 {
     if let Some(walked) = walked_by(alloc, text, &set, fast)? {
-        let Walked { envelope, faults } = walked;
-        return checked_by(alloc, text, set, guide_by(fast), envelope, faults);
+        let WalkedSet { ends, faults } = walked;
+        return checked_by(alloc, text, set, guide_by(fast), ends, faults);
     }
     let segs = segments_of(alloc, text, &set)?;
     let faults = set_faults_fast(alloc, &set, segs.as_slice(), fast)?;
@@ -49,23 +49,16 @@ pub fn check_set_fast<'a, 'g: 'a>(
     checked_by(alloc, text, set, guide_by(fast), envelope, faults)
 }
 
-/// What one walk over a set found: what its codes speak of, and its faults.
-#[derive(Drop)]
-struct Walked<'a> {
-    envelope: Envelope<'a>,
-    faults: Faults<'a>,
-}
-
-/// What one walk over a set finds, its faults in their order; none where it has no guide, or where its hierarchy or a dependency of its
+/// What one walk over a set finds, its faults in their order; none if the set has no guide, or if its hierarchy or a dependency of its
 /// guide may be broken.
 fn walked_by<'a, 'g: 'a>(
     alloc: Global,
     text: &'a [u8],
     set: &SetSpan,
     fast: Option<&FastGuide<'g>>,
-) -> Result<Option<Walked<'a>>, NoMemory>
+) -> Result<Option<WalkedSet<'a>>, NoMemory>
     requires { IsSetSpan text.now set.now }
-    ensures envelope { IfOk result (λ found. IfSome found (λ w. IsEnvelopeOf (set_parts text.entry.now set.now) w.envelope)) }
+    ensures ends { IfOk result (λ found. IfSome found (λ w. IsEnvelopeOf (set_parts text.entry.now set.now) w.ends)) }
     ensures faults { IfOk result (λ found. IfSome found (λ w.
         AreSetFaults (guide_tree_of (option_copied fast.entry)) (set_parts text.entry.now set.now) w.faults)) }
     ensures rising { IfOk result (λ found. IfSome found (λ w. AreRising w.faults)) }
@@ -73,16 +66,7 @@ fn walked_by<'a, 'g: 'a>(
     let Some(fast) = fast else {
         return Ok(None);
     };
-    let Some(walked) = walk_set(alloc, text, set, fast)? else {
-        return Ok(None);
-    };
-    let WalkedSet { ends, faults } = walked;
-    let envelope = Envelope {
-        header: ends.header,
-        segments: ends.segments,
-        trailer: ends.trailer,
-    };
-    Ok(Some(Walked { envelope, faults }))
+    walk_set(alloc, text, set, fast)
 }
 
 /// The guide of a compiled one.

@@ -1,4 +1,4 @@
-use Rattle.std.proofs.Common.{◌≡◌, ◌<◌, ◌∙◌, ◌&&◌, Bool, List, ap, arith, get_or, length, sym, take}
+use Rattle.std.proofs.Common.{◌<◌, ◌∙◌, ◌&&◌, Bool, List, ap, arith, get_or, length, sym}
 use Rattle.std.specs.List.{list_all}
 use Rattle.std.specs.Option.{option_copied}
 use Rattle.std.proofs.lemmas.List.{take_all}
