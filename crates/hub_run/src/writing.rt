@@ -12,7 +12,8 @@ use moment::At;
 use night_batches::{Night, Writing};
 use night_report::LineWriters;
 use partner_setup::Setup;
-use set_answers::{Finding, ReportWriters};
+use set_answers::ReportWriters;
+use set_check::Finding;
 use std::alloc::Global;
 
 /// Nothing yet, with room for the one batch of this index.

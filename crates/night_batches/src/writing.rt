@@ -18,9 +18,9 @@ use moment::At;
 use night_report::{LineWriters, ReportLines, Reported};
 use partner_setup::Setup;
 use set_answers::{
-    Acknowledgments, CheckedText, Finding, ReportWriters, answer_found, check_text,
-    no_acknowledgments,
+    Acknowledgments, CheckedText, ReportWriters, answer_found, check_text, no_acknowledgments,
 };
+use set_check::Finding;
 use std::alloc::Global;
 use std::marker::Model;
 use std::thread::Threads;

@@ -14,7 +14,7 @@ use Rattle.moment.specs.contracts.at.At as moment
 use Rattle.partner_setup.specs.contracts.setup.Setup as setup
 use Rattle.set_answers.specs.contracts.batch.Batch as batch
 use Rattle.set_answers.specs.contracts.files.Acknowledgments as sent
-use Rattle.set_answers.specs.contracts.finding.Finding as finding
+use Rattle.set_check.specs.contracts.finding.Finding as finding
 use Rattle.set_answers.specs.contracts.halving.Part as part
 use Rattle.set_check.proofs.ForAbove.{checked_send}
 use Rattle.std.proofs.Crossing.{crosses}

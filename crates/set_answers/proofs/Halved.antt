@@ -21,7 +21,7 @@ use Rattle.set_answers.specs.Counted.{without_text}
 use Rattle.set_answers.specs.Halves.{AreHalves, IsPartAnswered}
 use Rattle.set_answers.specs.Pairs.{AreAllPairs}
 use Rattle.set_answers.specs.SentAfter.{AreAnsweredAfter, AreSentAfter, CanAnswer, sent_after}
-use Rattle.set_answers.specs.declared.finding.Finding.{Finding}
+use Rattle.set_check.specs.declared.finding.Finding.{Finding}
 use Rattle.set_answers.specs.declared.halving.Part.{Part}
 use Rattle.set_answers.proofs.Acknowledging.{sent_twice}
 use Rattle.set_answers.proofs.Counts.{bare_room, room_counted}

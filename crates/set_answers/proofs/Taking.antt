@@ -11,7 +11,7 @@ use Rattle.env_index.specs.Words.{GroupEntry}
 use Rattle.env_index.specs.declared.entry.SetEnvelope.{SetEnvelope}
 use Rattle.set_answers.specs.Answers.{SentValue}
 use Rattle.set_answers.specs.Asked.{Asked, IsFound, group_asked, groups_asked, set_asked, sets_asked}
-use Rattle.set_answers.specs.declared.finding.Finding.{Finding}
+use Rattle.set_check.specs.declared.finding.Finding.{Finding}
 use Rattle.set_answers.proofs.Growing.{take_one_more}
 
 -- what is left of a list from a place on

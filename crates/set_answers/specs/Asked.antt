@@ -19,7 +19,7 @@ use Rattle.set_answers.specs.CheckedText.{sent_by}
 use Rattle.set_answers.specs.FirstUse.{IsUsedEarlier, knows}
 use Rattle.set_answers.specs.Seen.{is_among}
 use Rattle.set_answers.specs.Settled.{settled_entries}
-use Rattle.set_answers.specs.declared.finding.Finding.{Finding}
+use Rattle.set_check.specs.declared.finding.Finding.{Finding}
 
 -- how a set is checked: where it is, and by which guide
 pub record SetAsked : Type 0 where

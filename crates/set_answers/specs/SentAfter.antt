@@ -8,7 +8,7 @@ use Rattle.answered_sets.specs.Judged.{JudgedValue}
 use Rattle.set_answers.specs.Asked.{IsFound, asked_of}
 use Rattle.set_answers.specs.CheckedText.{CheckedInterchange, AreCheckedAs, IsCheckedAs, SentValues, acknowledged_to}
 use Rattle.set_answers.specs.CheckedText.{acknowledgments_from, groups_to, judged}
-use Rattle.set_answers.specs.declared.finding.Finding.{Finding}
+use Rattle.set_check.specs.declared.finding.Finding.{Finding}
 
 -- a partner's acknowledgments, with those of these interchanges after them
 abbrev pub sent_after : SetupValue → Partner → (at : List ℕ) → SentValues → List CheckedInterchange → SentValues

@@ -1,15 +1,6 @@
-use set_check::CheckedSet;
+use set_check::Finding;
 use std::marker::Model;
 use std::vec::IntoIter;
-
-/// What was found out about a place of an index: of a set how it was checked, and whether an earlier place has its number.
-#[derive(Drop)]
-pub struct Finding<'a> {
-    /// The set, once it was checked; none of an interchange or a group.
-    pub checked: Option<CheckedSet<'a>>,
-    /// Whether an earlier place has the number of this one.
-    pub earlier: bool,
-}
 
 /// What was found out about places that are still to come, in their order.
 #[derive(Drop)]
@@ -20,7 +11,7 @@ pub(crate) struct Findings<'a> {
 impl<'a> Model for Findings<'a> {
     ghost use Rattle.std.specs.Prelude.{List};
     ghost use Rattle.std.specs.Vec.Iter.{into_iter_items};
-    ghost use Rattle.set_answers.specs.declared.finding.Finding.{Finding};
+    ghost use Rattle.set_check.specs.declared.finding.Finding.{Finding};
     ghost use Rattle.guide_tree.specs.contracts.node.Node as node;
     ghost use Rattle.std.specs.Coded.{codes};
 
@@ -33,7 +24,7 @@ impl<'a> Model for Findings<'a> {
 
 impl<'a> Findings<'a> {
     ghost use Rattle.std.specs.Prelude.{◌≡◌, ◌∷◌, List};
-    ghost use Rattle.set_answers.specs.declared.finding.Finding.{Finding};
+    ghost use Rattle.set_check.specs.declared.finding.Finding.{Finding};
 
     pub(crate) fn new(list: Vec<Finding<'a>>) -> Findings<'a>
         ensures { result ≡ list.entry.items }

@@ -7,7 +7,7 @@ ghost use Rattle.set_answers.specs.Answers.{AreGroupAnswers, AreSetAnswers, IsGr
 ghost use Rattle.set_answers.specs.Asked.{Asked, IsFound, groups_asked, set_asked, sets_asked};
 
 use crate::answered::AnsweredGroup;
-use crate::finding::{Finding, Findings};
+use crate::finding::Findings;
 use crate::groups::answer_with;
 use crate::sent::Sent;
 use crate::sets::answer_checked;
@@ -16,6 +16,7 @@ use answered_sets::is_fa;
 use env_index::{GroupEnvelope, IndexedInterchange, Interchange};
 use hub_kinds::{InterchangeFault, NoMemory, SetAnswer};
 use partner_setup::Setup;
+use set_check::Finding;
 use std::alloc::Global;
 
 impl<'a> AnswerSource<'a> for Findings<'a> {

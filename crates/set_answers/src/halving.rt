@@ -8,12 +8,13 @@ ghost use Rattle.set_answers.specs.SentAfter.{CanAnswer};
 use crate::batch::Batch;
 use crate::counting::start_after;
 use crate::files::Acknowledgments;
-use crate::finding::{Finding, Findings};
+use crate::finding::Findings;
 use crate::reports::ReportedBy;
 use crate::walk::{CheckedText, answer_entries};
 use env_index::IndexedInterchange;
 use hub_kinds::NoMemory;
 use job_pool::OneThread;
+use set_check::Finding;
 use std::alloc::Global;
 use std::thread::{Threads, join};
 

@@ -51,7 +51,6 @@ mod writers;
 
 pub use answered::AnsweredGroup;
 pub use files::Acknowledgments;
-pub use finding::Finding;
 pub use settled::{fault_alone, faults_behind, settled_faults};
 pub use spot::answers_to;
 pub use walk::{CheckedText, answer_found, check_text, judge, no_acknowledgments};

@@ -11,7 +11,6 @@ use crate::acknowledgment::Acknowledgment;
 use crate::answered::AnsweredGroup;
 use crate::batch::Batch;
 use crate::files::Acknowledgments;
-use crate::finding::Finding;
 use crate::headers::no_headers;
 use crate::reports::{GroupReporters, ReportedBy};
 use crate::sending::acknowledge;
@@ -24,6 +23,7 @@ use env_index::{Index, IndexedInterchange};
 use hub_kinds::NoMemory;
 use moment::At;
 use partner_setup::Setup;
+use set_check::Finding;
 use std::alloc::Global;
 use x12_write::OutboundHeader;
 

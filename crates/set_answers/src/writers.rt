@@ -6,7 +6,7 @@ ghost use Rattle.set_answers.specs.CheckedText.{HaveRoom, IsCheckedBehind};
 
 use crate::batch::Batch;
 use crate::files::Acknowledgments;
-use crate::finding::{Finding, Findings};
+use crate::finding::Findings;
 use crate::halving::{FEWEST, Part, answer_by};
 use crate::reports::{GroupReporters, ReportedBy};
 use crate::walk::{CheckedText, answer_text};
@@ -15,6 +15,7 @@ use hub_kinds::NoMemory;
 use job_pool::{ManyThreads, OneThread};
 use moment::At;
 use partner_setup::Setup;
+use set_check::Finding;
 use std::alloc::Global;
 use std::thread::Threads;
 

@@ -4,6 +4,7 @@ pub mod Asking
 pub mod Crossing
 pub mod FewSets
 pub mod ForAbove
+pub mod Marking
 pub mod Placing
 pub mod Same
 pub mod Seeing

@@ -16,12 +16,12 @@ use Rattle.partner_setup.specs.Setup.{SetupValue, sender_of}
 use Rattle.set_answers.specs.Answers.{SentValue}
 use Rattle.set_answers.specs.CheckedText.{sent_by}
 use Rattle.set_answers.specs.Settled.{fault_alone, fault_with_sender}
-use Rattle.worker_pool.specs.Jobs.{DoneValue, JobValue, SetAsked, job_of, job_value, place_of, set_asked}
+use Rattle.worker_pool.specs.Jobs.{JobValue, SetAsked, job_of, job_value, place_of, set_asked}
 use Rattle.worker_pool.specs.Spans.{AreSpans, IsJobSpan, IsSpanOf}
 use Rattle.worker_pool.specs.declared.job.CheckJob.{CheckJob}
 use Rattle.worker_pool.specs.declared.job.SetJob.{SetJob}
 use Rattle.set_findings.specs.Alone.{entries_alone}
-use Rattle.set_findings.specs.Findings.{done_place}
+use Rattle.set_findings.specs.Findings.{found_place}
 use Rattle.set_findings.specs.Jobs.{entry_jobs, entry_jobs_by, group_jobs, jobs_behind, jobs_of, set_jobs}
 
 abbrev pub job_place : JobValue → Place
@@ -74,20 +74,20 @@ places_map : (jobs : List CheckJob) → map (λ (j : CheckJob). j.place) jobs �
 places_map [] = refl
 places_map (j ∷ jobs) = ap (λ (l : List Place). j.place ∷ l) (places_map jobs)
 
-pub done_map : (ds : List DoneValue) → map done_place ds ≡ map job_place (map job_of ds)
+pub done_map : (ds : List Finding) → map found_place ds ≡ map job_place (map job_of ds)
 done_map [] = refl
 done_map (d ∷ ds) = ap (λ (l : List Place). d.place ∷ l) (done_map ds)
 
-pub done_places : (jobs : List CheckJob) (ds : List DoneValue) → map job_of ds ≡ map job_value jobs
-    → map done_place ds ≡ map place_of jobs
-done_places jobs ds is = done_map ds ∙ ap (map job_place) is ∙ sym (places_map jobs)
+pub found_places : (jobs : List CheckJob) (ds : List Finding) → map job_of ds ≡ map job_value jobs
+    → map found_place ds ≡ map place_of jobs
+found_places jobs ds is = done_map ds ∙ ap (map job_place) is ∙ sym (places_map jobs)
 
-pub inside : (before after all : List DoneValue) (d : DoneValue) (places : List Place) → all ≡ before ++ d ∷ after
-    → map done_place all ≡ places → Contains places d.place
+pub inside : (before after all : List Finding) (d : Finding) (places : List Place) → all ≡ before ++ d ∷ after
+    → map found_place all ≡ places → Contains places d.place
 inside before after all d places is at =
     subst (λ (l : List Place). Contains l d.place)
-    (sym (map-append done_place before (d ∷ after)) ∙ sym (ap (map done_place) is) ∙ at)
-    (Contains-append_right (map done_place before) (d.place ∷ map done_place after) d.place (0, omega arith, refl))
+    (sym (map-append found_place before (d ∷ after)) ∙ sym (ap (map found_place) is) ∙ at)
+    (Contains-append_right (map found_place before) (d.place ∷ map found_place after) d.place (0, omega arith, refl))
 
 pub places_are : (setup : SetupValue) (index : IndexValue) (jobs : List CheckJob)
     → map job_value jobs ≡ jobs_of index.text setup index.entries

@@ -14,12 +14,12 @@ use Rattle.partner_setup.specs.Setup.{SetupValue, sender_of}
 use Rattle.set_answers.specs.Answers.{SentValue}
 use Rattle.set_answers.specs.Asked.{Asked, IsCheckedAs, IsFound, SetAsked, asked_of, entry_asked_by, groups_asked, has_places, sets_asked}
 use Rattle.set_answers.specs.CheckedText.{sent_by}
-use Rattle.set_answers.specs.declared.finding.Finding.{Finding}
+use Rattle.set_check.specs.declared.finding.Finding.{Finding}
 use Rattle.set_answers.specs.Settled.{fault_alone, fault_with_sender}
 use Rattle.set_check.specs.Checked.{Checked}
-use Rattle.worker_pool.specs.Jobs.{DoneValue, JobValue, SetAsked as SetWork, asked_by, job_of}
+use Rattle.worker_pool.specs.Jobs.{JobValue, SetAsked as SetWork, asked_by, job_of}
 use Rattle.set_findings.specs.Alone.{AreSettledBy, entries_alone, index_alone}
-use Rattle.set_findings.specs.Findings.{AreFound, AreWorkedOut, IsFindingOf, done_place}
+use Rattle.set_findings.specs.Findings.{AreFound, AreWorkedOut, IsFindingOf, found_place}
 use Rattle.set_findings.specs.Flags.{IsToldBy}
 use Rattle.set_findings.specs.Jobs.{entry_jobs_by, group_jobs, jobs_behind, set_jobs}
 use Rattle.set_findings.proofs.Asking.{IsAskedBy, all_asked, differs, has_is}
@@ -101,9 +101,9 @@ module _ (index : IndexValue) (faults : List (Option InterchangeFault)) where
     | inr some ↦ one_meaning asked.earlier flag _ (ask.within some) (told.within some)
   ]
 
-  found_all : (ns : List Numbered) (asked : List Asked) (ds : List DoneValue) (fs : List Finding)
+  found_all : (ns : List Numbered) (asked : List Asked) (ds : List Finding) (fs : List Finding)
       → AllZip (IsAskedBy places faults) ns asked → AllZip IsSame (map job_of ds) asked
-      → map done_place ds ≡ map place_in ns → AllZip (IsFindingOf index faults) ds fs → AllZip IsFound asked fs
+      → map found_place ds ≡ map place_in ns → AllZip (IsFindingOf index faults) ds fs → AllZip IsFound asked fs
   found_all [] [] [] [] ask same at found = tt
   found_all [] [] [] (f ∷ fs) ask same at found = absurd found
   found_all [] [] (d ∷ ds) fs ask same at found = absurd same
@@ -113,14 +113,14 @@ module _ (index : IndexValue) (faults : List (Option InterchangeFault)) where
   found_all (n ∷ ns) (a ∷ asked) (d ∷ ds) [] ask same at found = absurd found
   found_all (n ∷ ns) (a ∷ asked) (d ∷ ds) (f ∷ fs) ask same at found =
       let here : d.place ≡ n.place = cc in
-      let rest : map done_place ds ≡ map place_in ns = cc in
+      let rest : map found_place ds ≡ map place_in ns = cc in
       let told : IsToldBy index faults n.place f.earlier = subst (λ (p : Place). IsToldBy index faults p f.earlier) here found.0.earlier in
       let check : IsCheckedAs a.set f.checked
       = subst (λ (c : Option Checked). IsCheckedAs a.set c) (sym found.0.checked) (set_found d.checked a.set same.0) in
       (record { earlier = flag_is n a f.earlier ask.0 told; set = check }, found_all ns asked ds fs ask.1 same.1 rest found.1)
 
 pub all_found : (text : List ℕ) (setup : SetupValue) (index : IndexValue) (faults : List (Option InterchangeFault))
-    (results : List DoneValue) (findings : List Finding) → IsIndex text index → AreWorkedOut setup index faults results findings
+    (results : List Finding) (findings : List Finding) → IsIndex text index → AreWorkedOut setup index faults results findings
     → AreFound setup index faults findings
 all_found text setup index faults results findings is out =
     let es : List IndexEntry = index.entries in

@@ -6,22 +6,22 @@ use Rattle.hub_kinds.specs.declared.place.Place.{Place}
 use Rattle.env_index.specs.Words.{IndexValue, with_faults}
 use Rattle.partner_setup.specs.Setup.{SetupValue}
 use Rattle.set_answers.specs.Asked.{IsFound, asked_of}
-use Rattle.set_answers.specs.declared.finding.Finding.{Finding}
-use Rattle.worker_pool.specs.Jobs.{DoneValue, job_of}
+use Rattle.set_check.specs.declared.finding.Finding.{Finding}
+use Rattle.worker_pool.specs.Jobs.{job_of}
 use Rattle.set_findings.specs.Alone.{AreSettledBy, entries_alone, index_alone}
 use Rattle.set_findings.specs.Flags.{IsToldBy}
 use Rattle.set_findings.specs.Jobs.{jobs_of}
 
-abbrev pub done_place : DoneValue → Place
-done_place d = d.place
+abbrev pub found_place : Finding → Place
+found_place f = f.place
 
--- what was found out at a place where this was done: of a set its check, and whether an earlier place has the place's number
-pub record IsFindingOf (index : IndexValue) (faults : List (Option InterchangeFault)) (d : DoneValue) (f : Finding) : Type 0 where
-  pub checked : f.checked ≡ d.checked
-  pub earlier : IsToldBy index faults d.place f.earlier
+-- what was found out at a place, once it is also said whether an earlier place has the place's number
+pub record IsFindingOf (index : IndexValue) (faults : List (Option InterchangeFault)) (old new : Finding) : Type 0 where
+  pub checked : new.checked ≡ old.checked
+  pub earlier : IsToldBy index faults old.place new.earlier
 
 -- with these faults 1 to 9 of its interchanges, each place of an index was done, and this was found out at each
-pub record AreWorkedOut (setup : SetupValue) (index : IndexValue) (faults : List (Option InterchangeFault)) (results : List DoneValue)
+pub record AreWorkedOut (setup : SetupValue) (index : IndexValue) (faults : List (Option InterchangeFault)) (results : List Finding)
     (findings : List Finding) : Type 0 where
   pub settled : AreSettledBy setup index.entries faults
   pub done : map job_of results ≡ jobs_of index.text setup (entries_alone setup index.entries)

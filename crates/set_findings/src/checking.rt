@@ -11,19 +11,20 @@ use claim_desk::Seat;
 use env_index::Index;
 use job_pool::PoolFault;
 use number_register::{FullRegister, Named, Register, finish_all};
+use set_check::Finding;
 use std::alloc::Global;
 use std::marker::Brand;
 use std::sync::Wait;
 use std::sync::ledger::Blank;
 use std::thread::Threads;
 use std::time::Clock;
-use worker_pool::{CheckDone, CheckJob, Checked, Gate, checks_are_complete, run_checks};
+use worker_pool::{CheckJob, Checked, Gate, checks_are_complete, run_checks};
 
 /// What was done at each place of an index, the seat of the workers that did it, and the full register of the index.
 #[derive(Drop)]
 pub(crate) struct Done<'i, 'a> {
     pub(crate) seat: Seat,
-    pub(crate) done: Vec<CheckDone<'a>>,
+    pub(crate) done: Vec<Finding<'a>>,
     pub(crate) full: FullRegister<'i, 'a>,
 }
 
@@ -31,7 +32,7 @@ pub(crate) struct Done<'i, 'a> {
 fn all_done<'i, 'a>(
     jobs: &[CheckJob<'_, '_, '_>],
     seat: Seat,
-    done: Vec<CheckDone<'a>>,
+    done: Vec<Finding<'a>>,
     full: FullRegister<'i, 'a>,
 ) -> Done<'i, 'a>
     requires places { map place_of jobs.now ≡ places_of full.index }

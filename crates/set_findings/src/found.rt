@@ -12,7 +12,7 @@ use env_index::Index;
 use job_pool::PoolFault;
 use number_register::Seen;
 use partner_setup::Setup;
-use set_answers::Finding;
+use set_check::Finding;
 use std::alloc::Global;
 use std::sync::Wait;
 use std::thread::Threads;

@@ -6,14 +6,14 @@ ghost use Rattle.set_findings.specs.Alone.{AreSettledBy, index_alone};
 ghost use Rattle.set_findings.specs.Findings.{AreFound};
 
 use crate::checking::{Done, checks_by};
-use crate::findings::findings_of;
+use crate::findings::tell_each;
 use crate::guides::FastGuides;
 use crate::jobs::check_jobs;
 use env_index::Index;
 use hub_kinds::InterchangeFault;
 use job_pool::PoolFault;
 use partner_setup::Setup;
-use set_answers::Finding;
+use set_check::Finding;
 use std::alloc::Global;
 use std::sync::Wait;
 use std::thread::Threads;
@@ -43,8 +43,7 @@ pub(crate) fn worked_out<'g: 'a, 'a, G: Gate + Sync, R: Threads + Wait + Clock +
         return Err(PoolFault::NoMemory);
     };
     let Done { done, full, .. } = checks_by(rt, alloc, index, jobs.as_slice(), workers, gate)?;
-    match findings_of(alloc, &full, faults, done) {
-        Ok(findings) => Ok(findings),
-        Err(_) => Err(PoolFault::NoMemory),
-    }
+    let mut findings = done;
+    tell_each(&full, faults, findings.as_mut_slice());
+    Ok(findings)
 }

@@ -5,6 +5,7 @@ use Rattle.hub_kinds.specs.declared.place.Place.{Place}
 use Rattle.x12_segs.specs.declared.set_span.SetSpan.{SetSpan}
 use Rattle.guide_tree.specs.declared.rows.GuideRows.{GuideRows}
 use Rattle.set_check.specs.Checked.{Checked}
+use Rattle.set_check.specs.declared.finding.Finding.{Finding}
 use Rattle.worker_pool.specs.declared.job.CheckJob.{CheckJob}
 use Rattle.worker_pool.specs.declared.job.SetJob.{SetJob}
 
@@ -25,21 +26,15 @@ set_asked s = record { text = s.text.now; span = s.span; guide = option_copied s
 abbrev pub job_value : CheckJob → JobValue
 job_value j = record { place = j.place; set = option_map set_asked j.set }
 
--- an answer: its job's number, its place, and the set that was checked
-pub record DoneValue : Type 0 where
-  pub number : ℕ
-  pub place : Place
-  pub checked : Option Checked
-
 abbrev pub asked_by : Checked → SetAsked
 asked_by c = record { text = c.text; span = c.span; guide = c.guide }
 
--- the job that an answer is to
-abbrev pub job_of : DoneValue → JobValue
-job_of d = record { place = d.place; set = option_map asked_by d.checked }
+-- the job that found this
+abbrev pub job_of : Finding → JobValue
+job_of f = record { place = f.place; set = option_map asked_by f.checked }
 
-abbrev pub number_of : DoneValue → ℕ
-number_of d = d.number
+abbrev pub number_of : Finding → ℕ
+number_of f = f.number
 
 -- the place of a job, as a job of any pool may have one
 abbrev pub slot_of : CheckJob → Option Place

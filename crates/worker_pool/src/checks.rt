@@ -6,13 +6,13 @@ ghost use Rattle.job_pool.specs.Work.{numbers_from};
 ghost use Rattle.worker_pool.specs.Jobs.{job_of, job_value, number_of};
 ghost use Rattle.worker_pool.specs.Spans.{ArePlaced, AreSpans};
 
-use crate::done::CheckDone;
 use crate::gate::Gate;
 use crate::job::CheckJob;
 use crate::place_job::PlaceJob;
 use claim_desk::Seat;
 use job_pool::{PoolFault, Ran, Task, run_tasks};
 use number_register::{Named, RecordLock, Records, Register, Share};
+use set_check::Finding;
 use std::alloc::{AllocError, Global};
 use std::marker::{Brand, Model, PhantomData};
 use std::sync::Wait;
@@ -164,7 +164,7 @@ fn take_shares<J: Named>(
 #[derive(Drop)]
 pub struct Checked<'i, 'a> {
     pub seat: Seat,
-    pub done: Vec<CheckDone<'a>>,
+    pub done: Vec<Finding<'a>>,
     pub records: Records<'i, 'a>,
 }
 

@@ -5,10 +5,10 @@ ghost use Rattle.job_pool.specs.Work.{numbers_from};
 ghost use Rattle.work_core.specs.Complete.{AreOnce, Complete};
 ghost use Rattle.worker_pool.specs.Jobs.{number_of, place_of, slot_of};
 
-use crate::done::CheckDone;
 use crate::job::CheckJob;
 use claim_desk::Seat;
 use number_register::FullRegister;
+use set_check::Finding;
 
 /// All is done, by the rule of any pool of workers: where the jobs are at the places of the register's index, each job was claimed
 /// once and finished once, and each place recorded once, and no other. A theorem of what `run_checks` and `FullRegister::recorded` give.
@@ -16,7 +16,7 @@ pub fn checks_are_complete(
     full: &FullRegister<'_, '_>,
     jobs: &[CheckJob<'_, '_, '_>],
     seat: &Seat,
-    done: &[CheckDone<'_>],
+    done: &[Finding<'_>],
 )
     requires places { map place_of jobs.now ≡ places_of full.now.index }
     requires seat { EachOnce (length jobs.now) seat.now.got }

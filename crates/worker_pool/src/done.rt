@@ -4,56 +4,10 @@ ghost use Rattle.worker_pool.specs.Jobs.{asked_by, job_of, job_value, set_asked}
 ghost use Rattle.worker_pool.specs.Spans.{IsJobSpan};
 
 use crate::job::{CheckJob, SetJob};
-use hub_kinds::{NoMemory, Place};
+use hub_kinds::NoMemory;
 use number_register::Recorded;
-use set_check::{CheckedSet, check_set_fast};
+use set_check::{CheckedSet, Finding, check_set_fast};
 use std::alloc::Global;
-use std::marker::Model;
-
-/// A place that was recorded, and its set, which was checked. Only a job makes it.
-#[derive(Drop)]
-pub struct CheckDone<'a> {
-    number: u64,
-    recorded: Recorded,
-    checked: Option<CheckedSet<'a>>,
-}
-
-impl<'a> Model for CheckDone<'a> {
-    ghost use Rattle.guide_tree.specs.contracts.node.Node as node;
-    ghost use Rattle.std.specs.Coded.{codes as known_codes};
-    ghost use Rattle.worker_pool.specs.Jobs.{DoneValue};
-
-    ghost Value = { DoneValue };
-
-    ghost coded = { Prim.hlevel (known_codes, node.the_row.coded) };
-
-    ghost view = { λ d. record { number = d.number; place = d.recorded.place; checked = d.checked } };
-}
-
-impl<'a> CheckDone<'a> {
-    ghost use Rattle.std.specs.Prelude.{◌≡◌};
-
-    /// The number of its job.
-    pub fn number(&self) -> u64
-        ensures { result ≡ self.now.number }
-    {
-        self.number
-    }
-
-    /// Its place.
-    pub fn place(&self) -> Place
-        ensures { result ≡ self.now.place }
-    {
-        self.recorded.place()
-    }
-
-    /// Its set, with what was found wrong with it; none at the place of an interchange or a group.
-    pub fn into_checked(self) -> Option<CheckedSet<'a>>
-        ensures { result ≡ self.entry.checked }
-    {
-        self.checked
-    }
-}
 
 fn checked_set<'g: 'a, 'a>(
     alloc: Global,
@@ -81,22 +35,24 @@ fn checked_at<'g: 'a, 'a>(
     }
 }
 
-/// Checks the set of a job whose place was recorded. The only error is out of memory.
+/// Checks the set of `job`, whose place was `recorded`; `number` is the job's. Whether an earlier place has its number isn't asked yet.
+/// The only error is out of memory.
 pub fn run_check<'g: 'a, 'a>(
     alloc: Global,
     job: &CheckJob<'_, 'g, 'a>,
     number: u64,
     recorded: Recorded,
-) -> Result<CheckDone<'a>, NoMemory>
+) -> Result<Finding<'a>, NoMemory>
     requires span { IsJobSpan job.now }
     requires place { recorded.place ≡ job.now.place }
-    ensures job { IfOk result (λ d. job_of d ≡ job_value job.now) }
-    ensures number { IfOk result (λ d. d.number ≡ number) }
+    ensures job { IfOk result (λ f. job_of f ≡ job_value job.now) }
+    ensures number { IfOk result (λ f. f.number ≡ number) }
 {
     let checked = checked_at(alloc, job)?;
-    Ok(CheckDone {
+    Ok(Finding {
         number,
-        recorded,
+        place: recorded.place(),
         checked,
+        earlier: false,
     })
 }

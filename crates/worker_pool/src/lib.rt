@@ -8,7 +8,7 @@
 //!   in it (`HeadsDone::into_heads`), that to its marks its marking under the pair (`MarksDone::into_marks`), that to an interchange
 //!   the least of its faults 1 to 7 (`JudgeDone::fault`);
 //! - `run_checks` gives one answer to each job, in the order of the jobs, the seat that claimed each once, and the records of the
-//!   register's index. The answer to a set is checked, by the guide of its job; an answer has a record of its job's place;
+//!   register's index. An answer is a `Finding` at its job's place, which was recorded; a set is checked by the guide of its job;
 //! - after them all is done, by the rule of any pool of workers (`checks_are_complete`): each job claimed and finished once, each
 //!   place recorded once, and nothing else.
 //!
@@ -41,7 +41,7 @@ mod pool;
 
 pub use checks::{Checked, run_checks};
 pub use complete::checks_are_complete;
-pub use done::{CheckDone, run_check};
+pub use done::run_check;
 pub use gate::{Gate, OpenGate};
 pub use heads::{HeadsAsked, HeadsDone, HeadsJob};
 pub use job::{CheckJob, SetJob};

@@ -1,10 +1,11 @@
 ghost use Rattle.std.specs.Prelude.{◌≡◌, ℕ, IfOk};
 ghost use Rattle.worker_pool.specs.Jobs.{JobValue};
 
-use crate::done::{CheckDone, run_check};
+use crate::done::run_check;
 use crate::job::CheckJob;
 use hub_kinds::{NoMemory, Place};
 use number_register::Recorded;
+use set_check::Finding;
 use std::alloc::Global;
 
 // A job at a place as its workers know it. They share it by this alone, however large the guide that it is checked by.
@@ -41,7 +42,7 @@ impl<'f, 'g: 'a, 'a> PlaceJob for CheckJob<'f, 'g, 'a> {
     ghost use Rattle.worker_pool.specs.Jobs.{job_of, job_value};
     ghost use Rattle.worker_pool.specs.Spans.{IsJobSpan};
 
-    type Done = CheckDone<'a>;
+    type Done = Finding<'a>;
 
     ghost asks = { job_value };
 
@@ -60,11 +61,11 @@ impl<'f, 'g: 'a, 'a> PlaceJob for CheckJob<'f, 'g, 'a> {
         alloc: Global,
         number: u64,
         recorded: Recorded,
-    ) -> Result<CheckDone<'a>, NoMemory> {
+    ) -> Result<Finding<'a>, NoMemory> {
         run_check(alloc, self, number, recorded)
     }
 
-    fn number(done: &CheckDone<'a>) -> u64 {
-        done.number()
+    fn number(done: &Finding<'a>) -> u64 {
+        done.number
     }
 }

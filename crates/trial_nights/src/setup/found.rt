@@ -11,15 +11,15 @@ ghost use Rattle.x12_segs.specs.Words.{IsSetSpan, element_of};
 use super::built::example;
 use env_index::{Index, SetEnvelope, index_plain};
 use guide_tree::Guide;
-use hub_kinds::{NoMemory, within_limit};
+use hub_kinds::{NoMemory, Place, within_limit};
 use job_pool::OneThread;
 use moment::At;
 use night_report::report_text;
 use partner_setup::Setup;
 use set_answers::{
-    CheckedText, Finding, answer_found, check_text, no_acknowledgments, settled_faults,
+    CheckedText, answer_found, check_text, no_acknowledgments, settled_faults,
 };
-use set_check::check_set;
+use set_check::{Finding, check_set};
 use std::alloc::Global;
 use std::test::Fail;
 use x12_segs::SetSpan;
@@ -43,9 +43,15 @@ const TEXTS: &[&[u8]] = &[
 
 /// What is found of an interchange or a group whose number no earlier one has.
 fn new_place<'a>() -> Finding<'a>
-    ensures { result ≡ record { checked = None; earlier = false } }
+    ensures { result ≡ record { number = 0; place = record { isa = 1; gs = 0; st = 0 }; checked = None; earlier = false } }
 {
     Finding {
+        number: 0,
+        place: Place {
+            isa: 1,
+            gs: 0,
+            st: 0,
+        },
         checked: None,
         earlier: false,
     }
@@ -69,6 +75,7 @@ fn set_found<'a>(
     Ok(Finding {
         checked: Some(checked),
         earlier,
+        ..new_place()
     })
 }
 
@@ -85,8 +92,7 @@ fn listed<'a>(
     one: Finding<'a>,
     other: Finding<'a>,
 ) -> Result<Vec<Finding<'a>>, NoMemory>
-    ensures { IfOk result (λ found. found.items
-        ≡ record { checked = None; earlier = false } ∷ record { checked = None; earlier = false } ∷ one.entry ∷ other.entry ∷ []) }
+    ensures { IfOk result (λ found. found.items ≡ new_place ∷ new_place ∷ one.entry ∷ other.entry ∷ []) }
 {
     Ok(vec![in alloc; new_place(), new_place(), one, other]?)
 }

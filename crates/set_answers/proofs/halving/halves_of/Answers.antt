@@ -5,7 +5,7 @@ use Rattle.env_index.specs.Words.{IndexEntry}
 use Rattle.set_answers.specs.CheckedText.{SentValues}
 use Rattle.set_answers.specs.Counted.{AreCountedAfter, asked_count_of, without_text}
 use Rattle.set_answers.specs.SentAfter.{CanCount}
-use Rattle.set_answers.specs.declared.finding.Finding.{Finding}
+use Rattle.set_check.specs.declared.finding.Finding.{Finding}
 use Rattle.set_answers.proofs.Halved.{few_asked, first_ready, second_ready}
 use Rattle.set_answers.proofs.halving.halves_of.Goals as goal
 

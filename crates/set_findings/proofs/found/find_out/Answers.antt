@@ -2,7 +2,7 @@ use Rattle.std.proofs.Common.{List, [], ap, sym, subst, ◌∙◌}
 use Rattle.std.specs.List.{AllZip}
 use Rattle.env_index.specs.Words.{IndexValue, settled}
 use Rattle.set_answers.specs.Asked.{IsFound, asked_of}
-use Rattle.set_answers.specs.declared.finding.Finding.{Finding}
+use Rattle.set_check.specs.declared.finding.Finding.{Finding}
 use Rattle.set_answers.proofs.ForAbove.{by_numbers}
 use Rattle.set_findings.proofs.found.find_out.Goals as goal
 

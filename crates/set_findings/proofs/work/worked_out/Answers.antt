@@ -5,7 +5,7 @@ use Rattle.worker_pool.specs.Jobs.{job_of, job_value, place_of}
 use Rattle.worker_pool.specs.Spans.{AreSpans}
 use Rattle.worker_pool.specs.declared.job.CheckJob.{CheckJob}
 use Rattle.set_findings.proofs.FewSets.{HasItsSpans, few_sets, spans_alone}
-use Rattle.set_findings.proofs.Placing.{done_places}
+use Rattle.set_findings.proofs.Placing.{found_places}
 use Rattle.set_findings.proofs.Same.{all_found}
 use Rattle.set_findings.specs.Alone.{entries_alone, index_alone}
 use Rattle.set_findings.specs.Findings.{IsFindingOf}
@@ -34,7 +34,7 @@ pub findings_of-requires : goal.findings_of-requires
 findings_of-requires g c =
     let s = c.requires.settled in
     let done = c.in_ok-done.field-0 in
-    done_places c.in-Ok.jobs.items done.done.items
+    found_places c.in-Ok.jobs.items done.done.items
     (c.in_ok-done.ensures.done ∙ ap (λ (l : List CheckJob). map job_value l) c.as_slice.ensures.value)
     ∙ c.in-Ok.ensures.places s.1.entries (ap (λ (i : IndexValue). i.entries) s.4)
     ∙ ap places_of (sym c.in_ok-done.ensures.full)

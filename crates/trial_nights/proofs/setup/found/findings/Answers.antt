@@ -17,7 +17,7 @@ use Rattle.set_answers.specs.Asked.{Asked, IsFound, asked_of, entry_asked, entry
 use Rattle.set_answers.specs.Asked.{interchange_asked, is_duplicate, set_asked, sets_asked}
 use Rattle.set_answers.specs.CheckedText.{sent_by}
 use Rattle.set_answers.specs.Seen.{is_among}
-use Rattle.set_answers.specs.declared.finding.Finding.{Finding}
+use Rattle.set_check.specs.declared.finding.Finding.{Finding}
 use Rattle.set_answers.proofs.ForAbove.{at_index}
 use Rattle.trial_nights.proofs.setup.found.findings.Goals as goal
 
