@@ -6,6 +6,7 @@ ghost use Rattle.std.specs.Option.{option_copied};
 ghost use Rattle.std.specs.Str.{bytes_eq};
 ghost use Rattle.set_answers.specs.Asked.{IsFound, asked_of};
 ghost use Rattle.env_index.specs.Words.{HasSpans};
+ghost use Rattle.set_check.specs.declared.finding.Finding.{Finding};
 ghost use Rattle.x12_segs.specs.Words.{IsSetSpan, element_of};
 
 use super::built::example;
@@ -92,7 +93,9 @@ fn listed<'a>(
     one: Finding<'a>,
     other: Finding<'a>,
 ) -> Result<Vec<Finding<'a>>, NoMemory>
-    ensures { IfOk result (λ found. found.items ≡ new_place ∷ new_place ∷ one.entry ∷ other.entry ∷ []) }
+    ensures { IfOk result (λ found.
+        let new : Finding = record { number = 0; place = record { isa = 1; gs = 0; st = 0 }; checked = None; earlier = false } in
+        found.items ≡ new ∷ new ∷ one.entry ∷ other.entry ∷ []) }
 {
     Ok(vec![in alloc; new_place(), new_place(), one, other]?)
 }

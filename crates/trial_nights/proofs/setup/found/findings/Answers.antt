@@ -93,7 +93,7 @@ four_asked text setup e sender g a b clear known groups sets =
     ∙ ap (λ ss. interchange_asked e ∷ group_asked [] g ∷ (sets_asked sent g.header [] ss ++ [])) sets
 
 abbrev new_place : Finding
-new_place = record { checked = None; earlier = false }
+new_place = record { number = 0; place = record { isa = 1; gs = 0; st = 0 }; checked = None; earlier = false }
 
 -- all of it was found out
 all_found : (text : List ℕ) (setup : SetupValue) (es : List IndexEntry) (e : IndexEntry) (sender : ℕ) (g : GroupEntry) (a b : SetEnvelope)
