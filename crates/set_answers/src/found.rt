@@ -130,7 +130,11 @@ fn found_set<'a>(alloc: Global, findings: &mut Findings<'a>) -> Result<SetAnswer
     ensures rest { OnOk result ((asked : Asked) (more : List Asked) → AllZip IsFound (asked ∷ more) findings.old
         → AllZip IsFound more findings.new) }
 {
-    let Finding { checked, earlier } = findings.take();
+    let Finding {
+        checked,
+        earlier,
+        ..
+    } = findings.take();
     match checked {
         Some(checked) => answer_checked(alloc, checked, earlier),
         None => unreachable!(),
