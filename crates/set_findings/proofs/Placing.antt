@@ -20,6 +20,7 @@ use Rattle.worker_pool.specs.Jobs.{JobValue, SetAsked, job_of, job_value, place_
 use Rattle.worker_pool.specs.Spans.{AreSpans, IsJobSpan, IsSpanOf}
 use Rattle.worker_pool.specs.declared.job.CheckJob.{CheckJob}
 use Rattle.worker_pool.specs.declared.job.SetJob.{SetJob}
+use Rattle.set_check.specs.declared.finding.Finding.{Finding}
 use Rattle.set_findings.specs.Alone.{entries_alone}
 use Rattle.set_findings.specs.Findings.{found_place}
 use Rattle.set_findings.specs.Jobs.{entry_jobs, entry_jobs_by, group_jobs, jobs_behind, jobs_of, set_jobs}
