@@ -6,10 +6,8 @@ use Rattle.hub_kinds.specs.declared.interchange.InterchangeFault.{InterchangeFau
 use Rattle.hub_kinds.specs.declared.interchange.InterchangeFault.TheVariants.{Duplicate, TrailerMissing, ControlNumberInvalid}
 use Rattle.hub_kinds.specs.declared.interchange.InterchangeFault.TheVariants.{ControlNumbersDiffer, GroupCountWrong, SegmentMisplaced}
 use Rattle.hub_kinds.specs.declared.interchange.InterchangeFault.TheVariants.{GroupHeaderInvalid, SetHeaderInvalid, SenderUnknown}
-use Rattle.guide_tree.specs.declared.rows.GuideRows.{GuideRows}
 use Rattle.x12_segs.specs.Words.{SegValue, element_of}
-use Rattle.x12_segs.specs.declared.set_span.SetSpan.{SetSpan}
-use Rattle.set_check.specs.Checked.{Checked}
+use Rattle.set_check.specs.Checked.{Checked, SetAsked}
 use Rattle.set_check.specs.Codes.{control_of}
 use Rattle.env_index.specs.Words.{IndexEntry, Numbered, index_places, span_of, GroupEntry}
 use Rattle.env_index.specs.declared.entry.SetEnvelope.{SetEnvelope}
@@ -20,12 +18,6 @@ use Rattle.set_answers.specs.FirstUse.{IsUsedEarlier, knows}
 use Rattle.set_answers.specs.Seen.{is_among}
 use Rattle.set_answers.specs.Settled.{settled_entries}
 use Rattle.set_check.specs.declared.finding.Finding.{Finding}
-
--- how a set is checked: where it is, and by which guide
-pub record SetAsked : Type 0 where
-  pub text : List ℕ
-  pub span : SetSpan
-  pub guide : Option GuideRows
 
 -- whether an earlier place has the place's number; and of a set its check
 pub record Asked : Type 0 where

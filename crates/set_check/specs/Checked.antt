@@ -18,6 +18,16 @@ pub record Checked : Type 0 where
   pub faults : List Fault
   pub codes : List SetCode
 
+-- how a set is checked: the text, where it is there, and the rows of its guide, if it has one
+pub record SetAsked : Type 0 where
+  pub text : List ℕ
+  pub span : SetSpan
+  pub guide : Option GuideRows
+
+-- how a set was checked
+abbrev pub asked_by : Checked → SetAsked
+asked_by c = record { text = c.text; span = c.span; guide = c.guide }
+
 -- what the rows of its guide say, if it has one
 abbrev pub guide_tree_of : Option GuideRows → Option GuideTree
 guide_tree_of rows = option_map guide_of rows

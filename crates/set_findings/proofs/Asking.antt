@@ -47,13 +47,13 @@ zip_split R (x ∷ xs) xs' (y ∷ ys) ys' same h =
     let more = zip_split R xs xs' ys ys' (omega (arith, same)) h.1 in
     ((h.0, more.0), more.1)
 
-sets_long : (isa gs st : ℕ) (sent : SentValue) (header : SegValue) (before sets : List SetEnvelope)
+pub sets_long : (isa gs st : ℕ) (sent : SentValue) (header : SegValue) (before sets : List SetEnvelope)
     → length (set_numbers_from isa gs st sets) ≡ length (sets_asked sent header before sets)
 sets_long isa gs st sent header before [] = refl
 sets_long isa gs st sent header before (set ∷ sets) =
     let more = sets_long isa gs (st + 1) sent header (before ++ set ∷ []) sets in omega (arith, more)
 
-groups_long : (isa gs : ℕ) (sent : SentValue) (before groups : List GroupEntry)
+pub groups_long : (isa gs : ℕ) (sent : SentValue) (before groups : List GroupEntry)
     → length (group_numbers_from isa gs groups) ≡ length (groups_asked sent before groups)
 groups_long isa gs sent before [] = refl
 groups_long isa gs sent before (group ∷ groups) =

@@ -1,9 +1,9 @@
 -- Findings are completed one by one, each in its place.
-use Rattle.std.proofs.Common.{◌≡◌, ℕ, ◌+◌, ◌-◌, ◌<◌, ◌≤◌, List, [], ◌∷◌, ◌++◌, length, map, take, drop, set, get_or}
+use Rattle.std.proofs.Common.{◌≡◌, ℕ, ◌+◌, ◌-◌, ◌<◌, ◌≤◌, List, ◌∷◌, ◌++◌, length, map, take, drop, set, get_or}
 use Rattle.std.proofs.Common.{refl, sym, ap, subst, ◌∙◌, arith}
 use Rattle.std.specs.Prelude.{Contains}
 use Rattle.std.specs.List.{AllZip}
-use Rattle.std.proofs.lemmas.List.{drop_all, drop_more, drop-set-lt, length-drop, take-append-drop, take_all, take_more_set}
+use Rattle.std.proofs.lemmas.List.{drop_more, drop-set-lt, length-drop, take-append-drop, take_all, take_more_set}
 use Rattle.hub_kinds.specs.declared.place.Place.{Place}
 use Rattle.set_check.specs.declared.finding.Finding.{Finding}
 use Rattle.set_findings.specs.Findings.{found_place}

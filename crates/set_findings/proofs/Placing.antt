@@ -1,5 +1,5 @@
 -- The jobs of an index are at its places, and their sets stand in their spans.
-use Rattle.std.proofs.Common.{◌≡◌, ℕ, ◌+◌, List, [], ◌∷◌, ◌++◌, map, Option, Some, None, option_map, refl, sym, ap, ◌∙◌, subst, arith}
+use Rattle.std.proofs.Common.{◌≡◌, ℕ, ◌+◌, List, [], ◌∷◌, ◌++◌, length, map, Option, Some, None, option_map, refl, sym, ap, ◌∙◌, subst, arith}
 use Rattle.std.specs.Prelude.{Contains, is_none}
 use Rattle.std.specs.List.{All, AllByRecursion}
 use Rattle.std.proofs.lemmas.List.{map-append}
@@ -9,43 +9,31 @@ use Rattle.hub_kinds.specs.declared.place.Place.{Place}
 use Rattle.x12_bytes.specs.Header.{header_delims}
 use Rattle.x12_segs.specs.Words.{IsSetSpan, SegValue}
 use Rattle.env_index.specs.Words.{HasSpans, IndexEntry, IndexValue, GroupEntry, group_numbers_from, kept_places, place_at, place_in}
-use Rattle.env_index.specs.Words.{places_behind}
-use Rattle.env_index.specs.Words.{places_of, set_numbers_from, span_of, with_fault}
+use Rattle.env_index.specs.Words.{Numbered, places_behind, places_of, span_of, with_fault}
 use Rattle.env_index.specs.declared.entry.SetEnvelope.{SetEnvelope}
 use Rattle.partner_setup.specs.Setup.{SetupValue, sender_of}
 use Rattle.set_answers.specs.Answers.{SentValue}
+use Rattle.set_answers.specs.Asked.{Asked, groups_asked, sets_asked}
 use Rattle.set_answers.specs.CheckedText.{sent_by}
 use Rattle.set_answers.specs.Settled.{fault_alone, fault_with_sender}
-use Rattle.worker_pool.specs.Jobs.{JobValue, SetAsked, job_of, job_value, place_of, set_asked}
+use Rattle.worker_pool.specs.Jobs.{JobValue, job_of, job_value, place_of, set_asked}
 use Rattle.worker_pool.specs.Spans.{AreSpans, IsJobSpan, IsSpanOf}
 use Rattle.worker_pool.specs.declared.job.CheckJob.{CheckJob}
 use Rattle.worker_pool.specs.declared.job.SetJob.{SetJob}
+use Rattle.set_check.specs.Checked.{SetAsked}
 use Rattle.set_check.specs.declared.finding.Finding.{Finding}
 use Rattle.set_findings.specs.Alone.{entries_alone}
 use Rattle.set_findings.specs.Findings.{found_place}
-use Rattle.set_findings.specs.Jobs.{entry_jobs, entry_jobs_by, group_jobs, jobs_behind, jobs_of, set_jobs}
+use Rattle.set_findings.specs.Jobs.{entry_jobs, entry_jobs_by, jobs_at, jobs_behind, jobs_of}
+use Rattle.set_findings.proofs.Asking.{groups_long}
 
 abbrev pub job_place : JobValue → Place
 job_place job = job.place
 
-set_places : (sent : SentValue) (isa gs st : ℕ) (header : SegValue) (sets : List SetEnvelope)
-    → map job_place (set_jobs sent isa gs st header sets) ≡ map place_in (set_numbers_from isa gs st sets)
-set_places sent isa gs st header [] = refl
-set_places sent isa gs st header (set ∷ sets) =
-    ap (λ (l : List Place). place_at isa gs st ∷ l) (set_places sent isa gs (st + 1) header sets)
-
-group_places : (sent : SentValue) (isa gs : ℕ) (groups : List GroupEntry)
-    → map job_place (group_jobs sent isa gs groups) ≡ map place_in (group_numbers_from isa gs groups)
-group_places sent isa gs [] = refl
-group_places sent isa gs (group ∷ groups) =
-    let sets = set_jobs sent isa gs 1 group.header group.sets in
-    let more = group_jobs sent isa (gs + 1) groups in
-    let same : map job_place (sets ++ more) ≡ map place_in (set_numbers_from isa gs 1 group.sets ++ group_numbers_from isa (gs + 1) groups)
-    = map-append job_place sets more
-    ∙ ap (λ (l : List Place). l ++ map job_place more) (set_places sent isa gs 1 group.header group.sets)
-    ∙ ap (λ (l : List Place). map place_in (set_numbers_from isa gs 1 group.sets) ++ l) (group_places sent isa (gs + 1) groups)
-    ∙ sym (map-append place_in (set_numbers_from isa gs 1 group.sets) (group_numbers_from isa (gs + 1) groups)) in
-    ap (λ (l : List Place). place_at isa gs 0 ∷ l) same
+places_at : (ns : List Numbered) (asked : List Asked) → length ns ≡ length asked → map job_place (jobs_at ns asked) ≡ map place_in ns
+places_at [] asked same = refl
+places_at (n ∷ ns) [] same = absurd (omega (arith, same))
+places_at (n ∷ ns) (a ∷ asked) same = ap (λ (l : List Place). n.place ∷ l) (places_at ns asked (omega (arith, same)))
 
 -- where an interchange has none of the faults 1 to 8 its sender is known
 entry_places : (text : List ℕ) (setup : SetupValue) (n : ℕ) (e : IndexEntry) (fault : Option InterchangeFault) (sender : Option ℕ)
@@ -54,7 +42,10 @@ entry_places : (text : List ℕ) (setup : SetupValue) (n : ℕ) (e : IndexEntry)
 entry_places text setup n e (Some fault) sender = refl
 entry_places text setup n e None None = refl
 entry_places text setup n e None (Some sender) =
-    ap (λ (l : List Place). place_at n 0 0 ∷ l) (group_places (sent_by text setup sender e) n 1 e.interchange.content.groups)
+    ap (λ (l : List Place). place_at n 0 0 ∷ l)
+    (places_at (group_numbers_from n 1 e.interchange.content.groups)
+    (groups_asked (sent_by text setup sender e) [] e.interchange.content.groups)
+    (groups_long n 1 (sent_by text setup sender e) [] e.interchange.content.groups))
 
 pub alone_places : (text : List ℕ) (setup : SetupValue) (n : ℕ) (es : List IndexEntry)
     → map job_place (jobs_behind text setup n (entries_alone setup es)) ≡ map place_in (places_behind n (entries_alone setup es))
@@ -111,22 +102,30 @@ each_append : {A : Type 0} (P : A → Type 0) (xs ys : List A) → AllByRecursio
 each_append P [] ys h k = k
 each_append P (x ∷ xs) ys h k = (h.0, each_append P xs ys h.1 k)
 
-set_spans : (sent : SentValue) (isa gs st : ℕ) (header : SegValue) (sets : List SetEnvelope)
-    → AllByRecursion (λ (set : SetEnvelope). IsSetSpan sent.text (span_of sent.delims set)) sets
-    → AllByRecursion IsValueSpan (set_jobs sent isa gs st header sets)
-set_spans sent isa gs st header [] h = tt
-set_spans sent isa gs st header (set ∷ sets) h = (h.0, set_spans sent isa gs (st + 1) header sets h.1)
+abbrev pub StandsInItsSpan : Asked → Type 0
+StandsInItsSpan asked = IsAskedSpan asked.set
 
-group_spans : (sent : SentValue) (isa gs : ℕ) (groups : List GroupEntry)
+spans_at : (ns : List Numbered) (asked : List Asked) → AllByRecursion StandsInItsSpan asked → AllByRecursion IsValueSpan (jobs_at ns asked)
+spans_at [] asked h = tt
+spans_at (n ∷ ns) [] h = tt
+spans_at (n ∷ ns) (a ∷ asked) h = (h.0, spans_at ns asked h.1)
+
+set_spans : (sent : SentValue) (header : SegValue) (before sets : List SetEnvelope)
+    → AllByRecursion (λ (set : SetEnvelope). IsSetSpan sent.text (span_of sent.delims set)) sets
+    → AllByRecursion StandsInItsSpan (sets_asked sent header before sets)
+set_spans sent header before [] h = tt
+set_spans sent header before (set ∷ sets) h = (h.0, set_spans sent header (before ++ set ∷ []) sets h.1)
+
+group_spans : (sent : SentValue) (before groups : List GroupEntry)
     → AllByRecursion (λ (group : GroupEntry). All (λ (set : SetEnvelope). IsSetSpan sent.text (span_of sent.delims set)) group.sets) groups
-    → AllByRecursion IsValueSpan (group_jobs sent isa gs groups)
-group_spans sent isa gs [] h = tt
-group_spans sent isa gs (group ∷ groups) h = (
+    → AllByRecursion StandsInItsSpan (groups_asked sent before groups)
+group_spans sent before [] h = tt
+group_spans sent before (group ∷ groups) h = (
   tt,
-  each_append IsValueSpan (set_jobs sent isa gs 1 group.header group.sets) (group_jobs sent isa (gs + 1) groups)
-      (set_spans sent isa gs 1 group.header group.sets
+  each_append StandsInItsSpan (sets_asked sent group.header [] group.sets) (groups_asked sent (before ++ group ∷ []) groups)
+      (set_spans sent group.header [] group.sets
       (recursion_from_All (λ (set : SetEnvelope). IsSetSpan sent.text (span_of sent.delims set)) group.sets h.0))
-      (group_spans sent isa (gs + 1) groups h.1),
+      (group_spans sent (before ++ group ∷ []) groups h.1),
 )
 
 entry_spans : (text : List ℕ) (setup : SetupValue) (n : ℕ) (e : IndexEntry) (fault : Option InterchangeFault) (sender : Option ℕ)
@@ -135,10 +134,12 @@ entry_spans text setup n e (Some fault) sender h = tt
 entry_spans text setup n e None None h = tt
 entry_spans text setup n e None (Some sender) h = (
   tt,
-  group_spans (sent_by text setup sender e) n 1 e.interchange.content.groups
+  spans_at (group_numbers_from n 1 e.interchange.content.groups)
+      (groups_asked (sent_by text setup sender e) [] e.interchange.content.groups)
+      (group_spans (sent_by text setup sender e) [] e.interchange.content.groups
       (recursion_from_All (λ (group : GroupEntry).
       All (λ (set : SetEnvelope). IsSetSpan text (span_of (header_delims e.interchange.header) set)) group.sets)
-      e.interchange.content.groups h),
+      e.interchange.content.groups h)),
 )
 
 all_spans : (text : List ℕ) (setup : SetupValue) (n : ℕ) (es : List IndexEntry)

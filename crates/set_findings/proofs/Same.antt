@@ -1,55 +1,36 @@
 -- What was done at the places of an index is what is asked of them.
-use Rattle.std.proofs.Common.{◌≡◌, ◌⊎◌, inl, inr, ℕ, zero, suc, ◌+◌, ◌≤◌, List, [], ◌∷◌, ◌++◌, Bool, true, false, Option, Some, None}
-use Rattle.std.proofs.Common.{map, option_map, refl, sym, ap, ◌∙◌, subst, arith}
+use Rattle.std.proofs.Common.{◌≡◌, ◌⊎◌, inl, inr, ℕ, zero, suc, ◌+◌, ◌≤◌, List, [], ◌∷◌, Bool, true, false, Option, Some, None}
+use Rattle.std.proofs.Common.{length, map, option_map, refl, sym, ap, ◌∙◌, subst, arith}
 use Rattle.std.specs.Prelude.{◌↔◌, is_none}
 use Rattle.std.specs.List.{All, AllByRecursion, AllZip}
 use Rattle.std.proofs.lemmas.List.Elements.{recursion_from_All}
 use Rattle.hub_kinds.specs.declared.interchange.InterchangeFault.{InterchangeFault}
 use Rattle.hub_kinds.specs.declared.place.Place.{Place}
-use Rattle.x12_segs.specs.Words.{SegValue}
-use Rattle.env_index.specs.Words.{GroupEntry, IndexEntry, IndexValue, IsEntryOf, IsIndex, Numbered, place_in, places_behind}
+use Rattle.env_index.specs.Words.{IndexEntry, IndexValue, IsEntryOf, IsIndex, Numbered, group_numbers_from, place_in, places_behind}
 use Rattle.env_index.specs.Words.{with_fault, with_faults}
-use Rattle.env_index.specs.declared.entry.SetEnvelope.{SetEnvelope}
 use Rattle.partner_setup.specs.Setup.{SetupValue, sender_of}
-use Rattle.set_answers.specs.Answers.{SentValue}
-use Rattle.set_answers.specs.Asked.{Asked, IsCheckedAs, IsFound, SetAsked, asked_of, entry_asked_by, groups_asked, has_places, sets_asked}
+use Rattle.set_answers.specs.Asked.{Asked, IsCheckedAs, IsFound, asked_of, entry_asked_by, groups_asked, has_places}
 use Rattle.set_answers.specs.CheckedText.{sent_by}
 use Rattle.set_check.specs.declared.finding.Finding.{Finding}
 use Rattle.set_answers.specs.Settled.{fault_alone, fault_with_sender}
-use Rattle.set_check.specs.Checked.{Checked}
-use Rattle.worker_pool.specs.Jobs.{JobValue, SetAsked as SetWork, asked_by, job_of}
+use Rattle.set_check.specs.Checked.{Checked, SetAsked, asked_by}
+use Rattle.worker_pool.specs.Jobs.{JobValue, job_of}
 use Rattle.set_findings.specs.Alone.{AreSettledBy, entries_alone, index_alone}
 use Rattle.set_findings.specs.Findings.{AreFound, AreWorkedOut, IsFindingOf, found_place}
 use Rattle.set_findings.specs.Flags.{IsToldBy}
-use Rattle.set_findings.specs.Jobs.{entry_jobs_by, group_jobs, jobs_behind, set_jobs}
-use Rattle.set_findings.proofs.Asking.{IsAskedBy, all_asked, differs, has_is}
+use Rattle.set_findings.specs.Jobs.{entry_jobs_by, jobs_at, jobs_behind}
+use Rattle.set_findings.proofs.Asking.{IsAskedBy, all_asked, differs, groups_long, has_is}
 use Rattle.set_findings.proofs.Placing.{alone_places, done_map, job_place}
 use Rattle.set_findings.proofs.Zipped.{zip_append}
 
-abbrev pub IsSameSet : Option SetWork → Option SetAsked → Type 0
-IsSameSet None None = Unit {0}
-IsSameSet None (Some asked) = ⊥
-IsSameSet (Some work) None = ⊥
-IsSameSet (Some work) (Some asked) = (work.text ≡ asked.text) × (work.span ≡ asked.span) × (work.guide ≡ asked.guide)
-
 abbrev pub IsSame : JobValue → Asked → Type 0
-IsSame job asked = IsSameSet job.set asked.set
+IsSame job asked = job.set ≡ asked.set
 
-sets_same : (sent : SentValue) (isa gs st : ℕ) (header : SegValue) (before sets : List SetEnvelope)
-    → AllZip IsSame (set_jobs sent isa gs st header sets) (sets_asked sent header before sets)
-sets_same sent isa gs st header before [] = tt
-sets_same sent isa gs st header before (set ∷ sets) =
-    ((refl, refl, refl), sets_same sent isa gs (st + 1) header (before ++ set ∷ []) sets)
-
-groups_same : (sent : SentValue) (isa gs : ℕ) (before groups : List GroupEntry)
-    → AllZip IsSame (group_jobs sent isa gs groups) (groups_asked sent before groups)
-groups_same sent isa gs before [] = tt
-groups_same sent isa gs before (group ∷ groups) = (
-  tt,
-  zip_append IsSame (set_jobs sent isa gs 1 group.header group.sets) (group_jobs sent isa (gs + 1) groups)
-      (sets_asked sent group.header [] group.sets) (groups_asked sent (before ++ group ∷ []) groups)
-      (sets_same sent isa gs 1 group.header [] group.sets) (groups_same sent isa (gs + 1) (before ++ group ∷ []) groups),
-)
+jobs_same : (ns : List Numbered) (asked : List Asked) → length ns ≡ length asked → AllZip IsSame (jobs_at ns asked) asked
+jobs_same [] [] same = tt
+jobs_same [] (a ∷ asked) same = absurd (omega (arith, same))
+jobs_same (n ∷ ns) [] same = absurd (omega (arith, same))
+jobs_same (n ∷ ns) (a ∷ asked) same = (refl, jobs_same ns asked (omega (arith, same)))
 
 entry_same : (text : List ℕ) (setup : SetupValue) (isa : ℕ) (e : IndexEntry) (f g : Option InterchangeFault)
     (fault : Option InterchangeFault) (sender : Option ℕ)
@@ -57,7 +38,12 @@ entry_same : (text : List ℕ) (setup : SetupValue) (isa : ℕ) (e : IndexEntry)
     (entry_asked_by text setup (with_fault e f) (is_none (fault_with_sender fault sender)) sender)
 entry_same text setup isa e f g (Some x) sender = tt
 entry_same text setup isa e f g None None = tt
-entry_same text setup isa e f g None (Some s) = (tt, groups_same (sent_by text setup s e) isa 1 [] e.interchange.content.groups)
+entry_same text setup isa e f g None (Some s) = (
+  refl,
+  jobs_same (group_numbers_from isa 1 e.interchange.content.groups)
+      (groups_asked (sent_by text setup s e) [] e.interchange.content.groups)
+      (groups_long isa 1 (sent_by text setup s e) [] e.interchange.content.groups),
+)
 
 entries_same : (text : List ℕ) (setup : SetupValue) (isa : ℕ) (es : List IndexEntry) (fs : List (Option InterchangeFault))
     → AllByRecursion (IsEntryOf text) es → AreSettledBy setup es fs
@@ -84,11 +70,12 @@ by_kind : (gs : ℕ) → (gs ≡ 0) ⊎ (1 ≤ gs)
 by_kind zero = inl refl
 by_kind (suc gs) = inr (omega arith)
 
-set_found : (found : Option Checked) (asked : Option SetAsked) → IsSameSet (option_map asked_by found) asked → IsCheckedAs asked found
-set_found None None h = tt
-set_found None (Some asked) h = h
-set_found (Some found) None h = tt
-set_found (Some found) (Some asked) h = h
+own_set : (found : Option Checked) → IsCheckedAs (option_map asked_by found) found
+own_set None = tt
+own_set (Some found) = (refl, refl, refl)
+
+set_found : (found : Option Checked) (asked : Option SetAsked) → option_map asked_by found ≡ asked → IsCheckedAs asked found
+set_found found asked is = subst (λ (a : Option SetAsked). IsCheckedAs a found) is (own_set found)
 
 module _ (index : IndexValue) (faults : List (Option InterchangeFault)) where
   abbrev places : List Numbered

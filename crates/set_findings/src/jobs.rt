@@ -1,10 +1,11 @@
-ghost use Rattle.std.specs.Prelude.{◌≡◌, ◌++◌, ◌+◌, ◌≤◌, List, map, length, IfOk, OnOk};
+ghost use Rattle.std.specs.Prelude.{◌≡◌, ◌++◌, ◌∷◌, ◌+◌, ◌≤◌, [], List, None, map, length, IfOk, OnOk};
 ghost use Rattle.std.specs.List.{All};
 ghost use Rattle.std.specs.Thread.{IsSync};
 ghost use Rattle.hub_kinds.specs.declared.limits.TheConstants.{LONGEST_TEXT};
-ghost use Rattle.env_index.specs.Words.{HasSpans, IndexEntry, places_of};
+ghost use Rattle.env_index.specs.Words.{HasSpans, IndexEntry, group_numbers_from, place_at, places_of, set_numbers_from};
+ghost use Rattle.set_answers.specs.Asked.{groups_asked, sets_asked};
 ghost use Rattle.set_findings.specs.Alone.{entries_alone};
-ghost use Rattle.set_findings.specs.Jobs.{HasFewSets, entry_jobs, group_job, group_jobs, jobs_behind, jobs_of, sent_jobs, set_jobs};
+ghost use Rattle.set_findings.specs.Jobs.{HasFewSets, entry_jobs, jobs_at, jobs_behind, jobs_of};
 ghost use Rattle.worker_pool.specs.Jobs.{job_value};
 ghost use Rattle.worker_pool.specs.Spans.{AreSpans};
 
@@ -29,8 +30,8 @@ fn add_sets<'f, 'g, 'a>(
     group: &GroupEnvelope<'_, 'a>,
 ) -> Result<(), NoMemory>
     requires { length group.now.sets ≤ LONGEST_TEXT }
-    ensures { OnOk result (map job_value jobs.new.items
-        ≡ map job_value jobs.old.items ++ set_jobs sent.now isa gs 1 group.now.header group.now.sets) }
+    ensures { OnOk result (map job_value jobs.new.items ≡ map job_value jobs.old.items
+        ++ jobs_at (set_numbers_from isa gs 1 group.now.sets) (sets_asked sent.now group.now.header [] group.now.sets)) }
 {
     let header = group.header();
     let code = header.element(1);
@@ -52,7 +53,9 @@ fn add_group<'f, 'g, 'a>(
     group: &GroupEnvelope<'_, 'a>,
 ) -> Result<(), NoMemory>
     requires { length group.now.sets ≤ LONGEST_TEXT }
-    ensures { OnOk result (map job_value jobs.new.items ≡ map job_value jobs.old.items ++ group_job sent.now isa gs group.now) }
+    ensures { OnOk result (map job_value jobs.new.items ≡ map job_value jobs.old.items
+        ++ record { place = place_at isa gs 0; set = None }
+        ∷ jobs_at (set_numbers_from isa gs 1 group.now.sets) (sets_asked sent.now group.now.header [] group.now.sets)) }
 {
     jobs.push(CheckJob {
         place: Place { isa, gs, st: 0 },
@@ -70,8 +73,9 @@ fn add_groups<'f, 'g, 'a>(
 ) -> Result<(), NoMemory>
     requires groups { length interchange.now.content.groups ≤ LONGEST_TEXT }
     requires sets { All (λ group. length group.sets ≤ LONGEST_TEXT) interchange.now.content.groups }
-    ensures { OnOk result (map job_value jobs.new.items
-        ≡ map job_value jobs.old.items ++ group_jobs sent.now isa 1 interchange.now.content.groups) }
+    ensures { OnOk result (map job_value jobs.new.items ≡ map job_value jobs.old.items
+        ++ jobs_at (group_numbers_from isa 1 interchange.now.content.groups)
+        (groups_asked sent.now [] interchange.now.content.groups)) }
 {
     for index in 0..interchange.group_count() {
         let gs = index as u32 + 1;
@@ -89,8 +93,10 @@ fn add_sent<'f, 'g, 'a>(
 ) -> Result<(), NoMemory>
     requires groups { length interchange.now.content.groups ≤ LONGEST_TEXT }
     requires sets { All (λ group. length group.sets ≤ LONGEST_TEXT) interchange.now.content.groups }
-    ensures { OnOk result (map job_value jobs.new.items
-        ≡ map job_value jobs.old.items ++ sent_jobs sent.now isa interchange.now.content.groups) }
+    ensures { OnOk result (map job_value jobs.new.items ≡ map job_value jobs.old.items
+        ++ record { place = place_at isa 0 0; set = None }
+        ∷ jobs_at (group_numbers_from isa 1 interchange.now.content.groups)
+        (groups_asked sent.now [] interchange.now.content.groups)) }
 {
     jobs.push(CheckJob {
         place: Place { isa, gs: 0, st: 0 },

@@ -1,19 +1,11 @@
 -- X12.6, transaction set: jobs at the places of an index, and what their answers were asked (own).
-use Rattle.std.specs.Prelude.{ℕ, List, Option, Some, option_map}
+use Rattle.std.specs.Prelude.{ℕ, Option, Some, option_map}
 use Rattle.std.specs.Option.{option_copied}
 use Rattle.hub_kinds.specs.declared.place.Place.{Place}
-use Rattle.x12_segs.specs.declared.set_span.SetSpan.{SetSpan}
-use Rattle.guide_tree.specs.declared.rows.GuideRows.{GuideRows}
-use Rattle.set_check.specs.Checked.{Checked}
+use Rattle.set_check.specs.Checked.{SetAsked, asked_by}
 use Rattle.set_check.specs.declared.finding.Finding.{Finding}
 use Rattle.worker_pool.specs.declared.job.CheckJob.{CheckJob}
 use Rattle.worker_pool.specs.declared.job.SetJob.{SetJob}
-
--- how a set is checked: the text, where it is there, and the rows of its guide, if it has one
-pub record SetAsked : Type 0 where
-  pub text : List ℕ
-  pub span : SetSpan
-  pub guide : Option GuideRows
 
 -- a place, and how its set is checked, where it is a set's
 pub record JobValue : Type 0 where
@@ -25,9 +17,6 @@ set_asked s = record { text = s.text.now; span = s.span; guide = option_copied s
 
 abbrev pub job_value : CheckJob → JobValue
 job_value j = record { place = j.place; set = option_map set_asked j.set }
-
-abbrev pub asked_by : Checked → SetAsked
-asked_by c = record { text = c.text; span = c.span; guide = c.guide }
 
 -- the job that found this
 abbrev pub job_of : Finding → JobValue

@@ -1,6 +1,7 @@
 ghost use Rattle.std.specs.Prelude.{◌≡◌, option_map, IfOk};
 ghost use Rattle.x12_segs.specs.Words.{IsSetSpan};
-ghost use Rattle.worker_pool.specs.Jobs.{asked_by, job_of, job_value, set_asked};
+ghost use Rattle.set_check.specs.Checked.{asked_by};
+ghost use Rattle.worker_pool.specs.Jobs.{job_of, job_value, set_asked};
 ghost use Rattle.worker_pool.specs.Spans.{IsJobSpan};
 
 use crate::job::{CheckJob, SetJob};
