@@ -15,9 +15,9 @@
 //!   (`number_register::Seen`), and adds those of its interchange places;
 //! - `check_jobs` gives one job for each place of an index settled with the faults 1 to 8, in the order of places: at a set's place its
 //!   check, where it is, by its sender's guide for its GS01, GS08 and ST01;
-//! - `tell_each` goes once through the rows that the jobs gave, and says in each whether an earlier place has the place's number: of a group
-//!   and a set exactly where the first use of the number is an earlier place, of an interchange where it has the fault 9. Where all jobs
-//!   were done (`worked_out`), the rows are just what is asked before the text is answered;
+//! - `tell_each` goes once through the rows that the jobs gave. It says in each whether an earlier place has the place's number: of a
+//!   group and a set exactly if the first use of the number is an earlier place, of an interchange if it has the fault 9. Once all jobs
+//!   are done (`worked_out`), the rows are just what is asked before the text is answered;
 //! - `find_out` gives the index of the text, settled with the faults 1 to 9, and to each question that is asked before the text is answered
 //!   its answer, in the order of places;
 //! - `find_out_after` gives the same where interchanges come before the text, by their numbers, and the numbers after it. Neither names a

@@ -19,4 +19,5 @@ loop-i-preserved c =
 
 pub returns : goal.returns
 returns c =
-    told_all (IsFindingOf c.args.full.now.index c.args.faults.now) c.args.findings.now c.loop-i.findings c.loop-i.i (omega arith) c.loop-i.invariant
+    told_all (IsFindingOf c.args.full.now.index c.args.faults.now) c.args.findings.now c.loop-i.findings c.loop-i.i (omega arith)
+    c.loop-i.invariant
