@@ -142,12 +142,12 @@ fn recorded_behind<'f, 'a, G: Gate + Sync, R: Threads + Wait + Clock + Sync>(
     };
     let mut number = 0u64;
     for done in found.done {
-        let place = done.place();
-        if done.number() != number {
+        let place = done.place;
+        if done.number != number {
             return Err("another order".into());
         }
         number = number.wrapping_add(1);
-        let faults = match done.into_checked() {
+        let faults = match done.checked {
             None => 0,
             Some(set) => set.faults().len(),
         };
