@@ -1,14 +1,15 @@
 """Reads the contract of a function: whether it is nothing but equations, which refuse every other meaning of the body by themselves.
 
 Such a contract says what the function returns (`result ≡ ..`) and what each `&mut` parameter then is (`p.new ≡ ..`), each once, by
-the parameters alone. If the only error is `NoMemory`, it may say this of the success (`IfOk`, `OnOk`). Whatever isn't of exactly this form is no
-such contract: a condition (`→`), a relation, a view of the result or of a parameter, a bound of a type parameter, a value that could hold
-a `&mut` or a closure."""
+the parameters alone. If the only error is `NoMemory`, it may say this of the success (`IfOk`, `OnOk`). Whatever isn't of exactly this
+form is no such contract: a condition (`→`), a relation, a view of the result or of a parameter, a bound of a type parameter, a value that
+could hold a `&mut` or a closure."""
 import re
 
 OPENS, CLOSES = "([{<", ")]}>"
 # types of std that may hold a `&mut`, or change what is lent to them
-LENDS = {"IterMut", "Drain", "Formatter", "Entry", "OccupiedEntry", "VacantEntry", "Cell", "RefCell", "UnsafeCell", "Mutex", "RwLock", "Peekable"}
+LENDS = {"IterMut", "Drain", "Formatter", "Entry", "OccupiedEntry", "VacantEntry", "Peekable"}
+LENDS |= {"Cell", "RefCell", "UnsafeCell", "Mutex", "RwLock"}
 CLAUSE = re.compile(r"\s*(ghost|requires|ensures)(\*?)(?: +\w+)?(:?)\s*\{")
 # what an equation may have outside brackets: other signs bind looser than `≡`, or say no equation
 TERM = re.compile(r"[\w\s.'≡+*/^∷|&-]*")
