@@ -1,22 +1,19 @@
 -- Both parts of a batch are answered as the whole is.
-use Rattle.std.proofs.Common.{◌≡◌, ◌≤◌, ℕ, zero, suc, ◌+◌, Bool, true, false, List, [], ◌∷◌, ◌++◌, Option, Some, None, length, map}
-use Rattle.std.proofs.Common.{drop, take, refl, sym, ap, subst, ◌∙◌, arith, append_assoc}
+use Rattle.std.proofs.Common.{◌≡◌, ◌≤◌, ℕ, zero, suc, ◌+◌, List, [], ◌∷◌, ◌++◌, Some, length, map}
+use Rattle.std.proofs.Common.{drop, take, sym, ap, subst, ◌∙◌, arith}
 use Rattle.std.specs.Prelude.{option_map, slice_get}
 use Rattle.std.specs.List.{All, AllZip}
 use Rattle.std.proofs.lemmas.List.{length-append, length-map, map-append}
 use Rattle.std.proofs.lemmas.List.Elements.{All-cons, All-head, All-nil, All-tail, filter-append}
 use Rattle.std.proofs.lemmas.Option.{slice_get-map}
 use Rattle.std.proofs.lemmas.Slice.Zip.{AllZip-long}
-use Rattle.env_index.specs.Words.{IndexEntry, GroupEntry, HasSpans}
-use Rattle.env_index.specs.declared.entry.SetEnvelope.{SetEnvelope}
-use Rattle.partner_setup.specs.Setup.{SetupValue, sender_of}
-use Rattle.x12_segs.specs.Words.{SegValue}
+use Rattle.env_index.specs.Words.{IndexEntry, HasSpans}
+use Rattle.partner_setup.specs.Setup.{SetupValue}
 use Rattle.answered_sets.specs.Judged.{JudgedValue}
-use Rattle.set_answers.specs.Answers.{SentValue}
-use Rattle.set_answers.specs.Asked.{Asked, IsFound, asked_of, entry_asked, entry_asked_by, groups_asked, has_places, sets_asked}
+use Rattle.set_answers.specs.Asked.{Asked, IsFound, asked_of}
 use Rattle.set_answers.specs.CheckedText.{CheckedInterchange, IsCheckedAs, SentValues, acknowledged_to, groups_to, is_acknowledged_to}
-use Rattle.set_answers.specs.CheckedText.{HaveRoom, judged, sent_by}
-use Rattle.set_answers.specs.Counted.{AreContinued, AreCountedAfter, asked_count_by, asked_count_of, asked_in_groups}
+use Rattle.set_answers.specs.CheckedText.{HaveRoom, judged}
+use Rattle.set_answers.specs.Counted.{AreContinued, AreCountedAfter, asked_count_of}
 use Rattle.set_answers.specs.Counted.{without_text}
 use Rattle.set_answers.specs.Halves.{AreHalves, IsPartAnswered}
 use Rattle.set_answers.specs.Pairs.{AreAllPairs}
@@ -24,9 +21,11 @@ use Rattle.set_answers.specs.SentAfter.{AreAnsweredAfter, AreSentAfter, CanAnswe
 use Rattle.set_check.specs.declared.finding.Finding.{Finding}
 use Rattle.set_answers.specs.declared.halving.Part.{Part}
 use Rattle.set_answers.proofs.Acknowledging.{sent_twice}
+use Rattle.set_answers.proofs.Asking.{asked_append, asked_count}
 use Rattle.set_answers.proofs.Counts.{bare_room, room_counted}
 use Rattle.set_answers.proofs.Foretold.{counted_foretold, pairs_tail}
 use Rattle.set_answers.proofs.Starting.{can_count}
+use Rattle.set_answers.proofs.Zipping.{zip_back, zip_front}
 
 pairs_append : {A B : Type 0} (R : A → B → Type 0) (xs xs' : List A) (ys ys' : List B)
     → AreAllPairs (λ n a b. R a b) xs ys → AreAllPairs (λ n a b. R a b) xs' ys'
@@ -100,58 +99,6 @@ parts_answered part first second js ks ls one two new halves front back both con
     high : AreAnsweredAfter text setup at second.entries.now ks second.sent.items two
     high = subst (λ b. AreAnsweredAfter b.now.text.now b.now.setup.now b.now.at.now second.entries.now ks second.sent.items two)
         halves.second_batch back
-
--- what was asked of both parts was found out of each
-pub asked_append : (text : List ℕ) (setup : SetupValue) (es fs : List IndexEntry)
-    → asked_of text setup (es ++ fs) ≡ asked_of text setup es ++ asked_of text setup fs
-asked_append text setup [] fs = refl
-asked_append text setup (e ∷ es) fs = ap (λ (l : List Asked). entry_asked text setup e ++ l) (asked_append text setup es fs)
-    ∙ sym (append_assoc (entry_asked text setup e) (asked_of text setup es) (asked_of text setup fs))
-
-pub zip_front : {A B : Type 0} (R : A → B → Type 0) (rs bs : List A) (fs : List B) → AllZip R (rs ++ bs) fs
-    → AllZip R rs (take (length rs) fs)
-zip_front R [] bs fs h = tt
-zip_front R (a ∷ rs) bs [] h = h
-zip_front R (a ∷ rs) bs (f ∷ fs) h = (h.0, zip_front R rs bs fs h.1)
-
-pub zip_back : {A B : Type 0} (R : A → B → Type 0) (rs bs : List A) (fs : List B) → AllZip R (rs ++ bs) fs
-    → AllZip R bs (drop (length rs) fs)
-zip_back R [] bs fs h = h
-zip_back R (a ∷ rs) bs [] h = absurd h
-zip_back R (a ∷ rs) bs (f ∷ fs) h = zip_back R rs bs fs h.1
-
-sets_count : (sent : SentValue) (gs : SegValue) (before sets : List SetEnvelope) → length (sets_asked sent gs before sets) ≡ length sets
-sets_count sent gs before [] = refl
-sets_count sent gs before (set ∷ sets) = ap suc (sets_count sent gs (before ++ set ∷ []) sets)
-
-groups_count : (sent : SentValue) (before groups : List GroupEntry)
-    → length (groups_asked sent before groups) ≡ asked_in_groups groups
-groups_count sent before [] = refl
-groups_count sent before (group ∷ groups) =
-    omega (
-      arith,
-      length-append (sets_asked sent group.header [] group.sets) (groups_asked sent (before ++ group ∷ []) groups),
-      sets_count sent group.header [] group.sets,
-      groups_count sent (before ++ group ∷ []) groups,
-    )
-
-entry_count : (text : List ℕ) (setup : SetupValue) (e : IndexEntry) (b : Bool) (sender : Option ℕ)
-    → length (entry_asked_by text setup e b sender) ≡ asked_count_by b sender e.interchange.content.groups
-entry_count text setup e false sender = refl
-entry_count text setup e true None = refl
-entry_count text setup e true (Some sender) =
-    omega (arith, groups_count (sent_by text setup sender e) [] e.interchange.content.groups)
-
-pub asked_count : (text : List ℕ) (setup : SetupValue) (es : List IndexEntry)
-    → length (asked_of text setup es) ≡ asked_count_of setup es
-asked_count text setup [] = refl
-asked_count text setup (e ∷ es) =
-    omega (
-      arith,
-      length-append (entry_asked text setup e) (asked_of text setup es),
-      entry_count text setup e (has_places e.fault) (sender_of setup e.interchange.header),
-      asked_count text setup es,
-    )
 
 spans_append : (P : IndexEntry → Type 0) (es fs : List IndexEntry) → All P (es ++ fs) → All P es × All P fs
 spans_append P [] fs all = (All-nil P, all)

@@ -1,5 +1,7 @@
 pub mod Acknowledging
+pub mod AlsoFound
 pub mod Among
+pub mod Asking
 pub mod Continuing
 pub mod Counts
 pub mod Crossing
@@ -23,3 +25,4 @@ pub mod Settling
 pub mod Sharing
 pub mod SoundHeaders
 pub mod Starting
+pub mod Zipping

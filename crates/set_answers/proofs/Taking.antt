@@ -1,29 +1,29 @@
 -- What was found out about places, taken one after another.
-use Rattle.std.proofs.Common.{◌≡◌, ℕ, suc, ◌+◌, ◌≤◌, List, [], ◌∷◌, ◌++◌, Some, take, drop, length, get_or, refl, sym, ap, subst}
-use Rattle.std.proofs.Common.{◌∙◌, arith}
-use Rattle.std.proofs.Common.{append_assoc, drop-cons}
-use Rattle.std.proofs.lemmas.List.{drop_all}
+use Rattle.std.proofs.Common.{◌≡◌, ℕ, suc, ◌+◌, ◌≤◌, Bool, true, List, [], ◌∷◌, ◌++◌, Option, Some, take, drop, length, get_or}
+use Rattle.std.proofs.Common.{sym, ap, subst, ◌∙◌, arith, append_assoc, drop-cons}
+use Rattle.std.proofs.lemmas.List.{drop_all, length-append}
+use Rattle.std.proofs.lemmas.Slice.Zip.{AllZip-long}
 use Rattle.std.specs.Prelude.{slice_get}
 use Rattle.std.specs.List.{AllZip}
 use Rattle.std.proofs.lemmas.Option.{get_or_from_slice_get, slice_get_within}
+use Rattle.hub_kinds.specs.declared.interchange.InterchangeFault.{InterchangeFault}
 use Rattle.x12_segs.specs.Words.{SegValue}
-use Rattle.env_index.specs.Words.{GroupEntry}
+use Rattle.env_index.specs.Words.{IndexEntry, GroupEntry}
 use Rattle.env_index.specs.declared.entry.SetEnvelope.{SetEnvelope}
+use Rattle.partner_setup.specs.Setup.{SetupValue}
 use Rattle.set_answers.specs.Answers.{SentValue}
-use Rattle.set_answers.specs.Asked.{Asked, IsFound, group_asked, groups_asked, set_asked, sets_asked}
+use Rattle.set_answers.specs.Asked.{Asked, IsFound, entry_asked_by, group_asked, groups_asked, has_places, interchange_asked, set_asked}
+use Rattle.set_answers.specs.Asked.{sets_asked}
+use Rattle.set_answers.specs.CheckedText.{sent_by}
 use Rattle.set_check.specs.declared.finding.Finding.{Finding}
 use Rattle.set_answers.proofs.Growing.{take_one_more}
+use Rattle.set_answers.proofs.Zipping.{zip_back}
 
 -- what is left of a list from a place on
 pub drop_one_more : {A : Type 0} (xs : List A) (i : ℕ) (x : A) → slice_get xs i ≡ Some x → drop i xs ≡ x ∷ drop (i + 1) xs
 drop_one_more {A} xs i x is = drop-cons xs i x (slice_get_within xs i x is)
     ∙ ap (λ (n : ℕ). get_or xs i x ∷ drop n xs) (let e : suc i ≡ i + 1 = omega arith in e)
     ∙ ap (λ (y : A). y ∷ drop (i + 1) xs) (get_or_from_slice_get xs i x x is)
-
-pub first_there : (a : Asked) (bs : List Asked) (fs : List Finding) → AllZip IsFound (a ∷ bs) fs
-    → (f : Finding) × (more : List Finding) × (fs ≡ f ∷ more)
-first_there a bs [] h = absurd h
-first_there a bs (f ∷ fs) h = (f, fs, refl)
 
 pub first_is : (a : Asked) (bs : List Asked) (fs : List Finding) (f : Finding) (more : List Finding) → AllZip IsFound (a ∷ bs) fs
     → fs ≡ f ∷ more → IsFound a f × AllZip IsFound bs more
@@ -51,9 +51,6 @@ pub own_sets : (sent : SentValue) (before : List GroupEntry) (group : GroupEntry
 own_sets sent before group groups more =
     ap (λ (l : List Asked). group_asked before group ∷ l)
     (append_assoc (sets_asked sent group.header [] group.sets) (groups_asked sent (before ++ group ∷ []) groups) more)
-
-abbrev pub AreFound : List Asked → List Finding → Type 0
-AreFound bs fs = AllZip IsFound bs fs
 
 pub moved_asked : (bs cs : List Asked) (fs : List Finding) → bs ≡ cs → AllZip IsFound bs fs → AllZip IsFound cs fs
 moved_asked bs cs fs e h = subst (λ (l : List Asked). AllZip IsFound l fs) e h
@@ -105,3 +102,25 @@ first_group sent before group groups more fs h = moved_asked _ _ fs (own_sets se
 pub behind_first : (a : Asked) (bs : List Asked) (fs : List Finding) (f : Finding) (more : List Finding) → AllZip IsFound (a ∷ bs) fs
     → fs ≡ f ∷ more → AllZip IsFound bs more
 behind_first a bs fs f more h e = (first_is a bs fs f more h e).1
+
+-- as many are left as are asked first
+pub enough : (bs more : List Asked) (fs : List Finding) → AllZip IsFound (bs ++ more) fs → length bs ≤ length fs
+enough bs more fs h = omega (arith, AllZip-long IsFound (bs ++ more) fs h, length-append bs more)
+
+-- after so many
+pub behind : (n : ℕ) (bs more : List Asked) (fs rest : List Finding) → n ≡ length bs → rest ≡ drop n fs
+    → AllZip IsFound (bs ++ more) fs → AllZip IsFound more rest
+behind n bs more fs rest counted passed h =
+    subst (λ (l : List Finding). AllZip IsFound more l) (sym (passed ∙ ap (λ (k : ℕ). drop k fs) counted)) (zip_back IsFound bs more fs h)
+
+-- of an interchange that has places, after its own
+pub behind_own : (text : List ℕ) (setup : SetupValue) (e : IndexEntry) (fault : Option InterchangeFault) (sender : Option ℕ) (s : ℕ)
+    (more : List Asked) (fs : List Finding) (f : Finding) (rest : List Finding) → fault ≡ e.fault → has_places fault ≡ true
+    → sender ≡ Some s → fs ≡ f ∷ rest → AllZip IsFound (entry_asked_by text setup e (has_places e.fault) sender ++ more) fs
+    → AllZip IsFound (groups_asked (sent_by text setup s e) [] e.interchange.content.groups ++ more) rest
+behind_own text setup e fault sender s more fs f rest faulty has known split h =
+    let with_places = subst (λ (b : Bool). AllZip IsFound (entry_asked_by text setup e b sender ++ more) fs)
+    (ap has_places (sym faulty) ∙ has) h in
+    let by_sender = subst (λ (o : Option ℕ). AllZip IsFound (entry_asked_by text setup e true o ++ more) fs) known with_places in
+    behind_first (interchange_asked e) (groups_asked (sent_by text setup s e) [] e.interchange.content.groups ++ more) fs f rest by_sender
+    split

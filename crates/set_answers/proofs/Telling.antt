@@ -25,13 +25,7 @@ use Rattle.set_answers.specs.Settled.{fault_alone, fault_behind, fault_if_earlie
 use Rattle.set_answers.specs.Settled.{interchange_key_of}
 use Rattle.set_answers.proofs.Duplicates.{alone_is_indexed, by_differs, earlier_interchange, entry_is, sender_differs, told_by_first_use}
 use Rattle.set_answers.proofs.Growing.{length_snoc}
-
-zip_append : {A B : Type 0} (R : A → B → Type 0) (xs xs' : List A) (ys ys' : List B) → AllZip R xs ys → AllZip R xs' ys'
-    → AllZip R (xs ++ xs') (ys ++ ys')
-zip_append R [] xs' [] ys' h k = k
-zip_append R [] xs' (y ∷ ys) ys' h k = absurd h
-zip_append R (x ∷ xs) xs' [] ys' h k = absurd h
-zip_append R (x ∷ xs) xs' (y ∷ ys) ys' h k = (h.0, zip_append R xs xs' ys ys' h.1 k)
+use Rattle.set_answers.proofs.Zipping.{zip_append}
 
 at_end : {A : Type 0} (xs ys : List A) (x : A) → slice_get (xs ++ x ∷ ys) (length xs) ≡ Some x
 at_end [] ys x = refl

@@ -1,4 +1,5 @@
 pub mod Acknowledgments
+pub mod AlsoFound
 pub mod Answers
 pub mod Asked
 pub mod CheckedText

@@ -59,7 +59,7 @@ fn recipient_from(
 }
 
 /// How many findings are those of the groups of an interchange and of their sets.
-fn findings_in(interchange: &Interchange<'_>) -> usize
+pub(crate) fn findings_in(interchange: &Interchange<'_>) -> usize
     requires { asked_in_groups interchange.now.content.groups < 2 ^ 64 }
     ensures { result ≡ asked_in_groups interchange.now.content.groups }
 {

@@ -23,7 +23,7 @@ impl<'a> Model for Findings<'a> {
 }
 
 impl<'a> Findings<'a> {
-    ghost use Rattle.std.specs.Prelude.{◌≡◌, ◌∷◌, List};
+    ghost use Rattle.std.specs.Prelude.{◌≡◌, ◌≤◌, ◌<◌, ◌^◌, ◌∷◌, List, drop, length};
     ghost use Rattle.set_check.specs.declared.finding.Finding.{Finding};
 
     pub(crate) fn new(list: Vec<Finding<'a>>) -> Findings<'a>
@@ -37,11 +37,22 @@ impl<'a> Findings<'a> {
     /// The next one.
     pub(crate) fn take(&mut self) -> Finding<'a>
         requires { (first : Finding) × (more : List Finding) × (self.old ≡ first ∷ more) }
-        ensures { self.old ≡ result ∷ self.new }
+        ensures first { self.old ≡ result ∷ self.new }
+        ensures few { length self.new < 2 ^ 64 }
     {
         match self.rest.next() {
             Some(finding) => finding,
             None => unreachable!(),
+        }
+    }
+
+    /// Passes over the next `count`.
+    pub(crate) fn pass(&mut self, count: usize)
+        requires { count ≤ length self.old }
+        ensures { self.new ≡ drop count self.old }
+    {
+        for _ in 0..count {
+            self.take();
         }
     }
 }

@@ -1,52 +1,59 @@
-ghost use Rattle.std.specs.Prelude.{◌++◌, ◌∷◌, [], List, IfOk, OnOk};
+ghost use Rattle.std.specs.Prelude.{◌≡◌, ◌≤◌, ◌++◌, ◌∷◌, [], List, length, IfOk, OnOk};
 ghost use Rattle.std.specs.List.{AllZip};
-ghost use Rattle.x12_segs.specs.Words.{SegValue};
-ghost use Rattle.env_index.specs.Words.{GroupEntry};
+ghost use Rattle.hub_kinds.specs.declared.limits.TheConstants.{LONGEST_TEXT};
+ghost use Rattle.x12_segs.specs.Words.{SegValue, element_of};
+ghost use Rattle.set_check.specs.Codes.{control_of};
+ghost use Rattle.env_index.specs.Words.{span_of, GroupEntry};
 ghost use Rattle.env_index.specs.declared.entry.SetEnvelope.{SetEnvelope};
-ghost use Rattle.set_answers.specs.Answers.{AreGroupAnswers, AreSetAnswers, IsGroupAnswered, IsSetAnswer, SentValue};
-ghost use Rattle.set_answers.specs.Asked.{Asked, IsFound, groups_asked, set_asked, sets_asked};
+ghost use Rattle.partner_setup.specs.Setup.{guide_for_set};
+ghost use Rattle.set_answers.specs.Answers.{AreGroupAnswers, AreSetAnswers, IsGroupAnswered, IsSetAnswer, SentValue, controls_of};
+ghost use Rattle.set_answers.specs.Asked.{Asked, IsFound, entry_asked_by, groups_asked, has_places, set_asked, sets_asked};
+ghost use Rattle.set_answers.specs.CheckedText.{AreAnswersBy};
+ghost use Rattle.set_answers.specs.Seen.{is_among};
 
 use crate::answered::AnsweredGroup;
+use crate::counting::findings_in;
 use crate::finding::Findings;
 use crate::groups::answer_with;
 use crate::sent::Sent;
-use crate::sets::answer_checked;
-use crate::source::AnswerSource;
 use answered_sets::is_fa;
 use env_index::{GroupEnvelope, IndexedInterchange, Interchange};
 use hub_kinds::{InterchangeFault, NoMemory, SetAnswer};
 use partner_setup::Setup;
-use set_check::Finding;
+use set_check::{CheckedSet, Finding};
 use std::alloc::Global;
 
-impl<'a> AnswerSource<'a> for Findings<'a> {
-    ghost use Rattle.std.specs.List.{AllZip};
-    ghost use Rattle.set_answers.specs.Asked.{IsFound, asked_of};
-
-    ghost serves = { λ findings text setup entries. AllZip IsFound (asked_of text setup entries) findings };
-
-    fn answers_to(
-        &mut self,
-        alloc: Global,
-        setup: &'a Setup,
-        text: &'a [u8],
-        sender: Option<usize>,
-        entry: &IndexedInterchange<'a>,
-    ) -> Result<Vec<Option<AnsweredGroup<'a>>>, NoMemory> {
-        let interchange = entry.interchange();
-        match (entry.fault(), sender) {
-            (None, Some(sender)) => {
-                self.take();
-                let sent = Sent::new(text, setup, sender, interchange.header().delims());
-                found_groups(alloc, &sent, interchange, self)
-            }
-            (Some(InterchangeFault::Duplicate), Some(_)) => {
-                self.take();
-                pass_groups(interchange, self);
-                Ok(Vec::new(alloc))
-            }
-            _ => Ok(Vec::new(alloc)),
+/// What is answered to the groups of `entry`, the next interchange, which `sender` sent, by what was found out about its places: nothing
+/// if it has a fault, or if no partner is the sender.
+pub(crate) fn next_answers<'a>(
+    alloc: Global,
+    setup: &'a Setup,
+    text: &'a [u8],
+    sender: Option<usize>,
+    entry: &IndexedInterchange<'a>,
+    findings: &mut Findings<'a>,
+) -> Result<Vec<Option<AnsweredGroup<'a>>>, NoMemory>
+    requires { (more : List Asked)
+        × AllZip IsFound (entry_asked_by text.now setup.now entry.now (has_places entry.now.fault) sender ++ more) findings.old }
+    ensures answers { IfOk result (λ v. AreAnswersBy text.entry.now setup.entry.now entry.now entry.now.fault sender v.items) }
+    ensures few { IfOk result (λ v. length v.items ≤ LONGEST_TEXT) }
+    ensures rest { OnOk result ((more : List Asked)
+        → AllZip IsFound (entry_asked_by text.entry.now setup.entry.now entry.now (has_places entry.now.fault) sender ++ more) findings.old
+        → AllZip IsFound more findings.new) }
+{
+    let interchange = entry.interchange();
+    match (entry.fault(), sender) {
+        (None, Some(sender)) => {
+            findings.take();
+            let sent = Sent::new(text, setup, sender, interchange.header().delims());
+            found_groups(alloc, &sent, interchange, findings)
         }
+        (Some(InterchangeFault::Duplicate), Some(_)) => {
+            findings.take();
+            findings.pass(findings_in(interchange));
+            Ok(Vec::new(alloc))
+        }
+        _ => Ok(Vec::new(alloc)),
     }
 }
 
@@ -91,7 +98,7 @@ fn found_group<'a>(
 {
     let Finding { earlier, .. } = findings.take();
     if is_fa(group) {
-        pass_sets(group, findings);
+        findings.pass(group.set_count());
         return Ok(None);
     }
     let sets = found_sets(alloc, sent, group, findings)?;
@@ -141,40 +148,16 @@ fn found_set<'a>(alloc: Global, findings: &mut Findings<'a>) -> Result<SetAnswer
     }
 }
 
-/// Passes over what was found out about the sets of a group.
-fn pass_sets(group: &GroupEnvelope<'_, '_>, findings: &mut Findings<'_>)
-    requires { (sent : SentValue) × (more : List Asked)
-        × AllZip IsFound (sets_asked sent group.now.header [] group.now.sets ++ more) findings.old }
-    ensures { (sent : SentValue) (more : List Asked)
-        → AllZip IsFound (sets_asked sent group.now.header [] group.now.sets ++ more) findings.old
-        → AllZip IsFound more findings.new }
+/// The answer to a set that was checked.
+fn answer_checked<'a>(
+    alloc: Global,
+    checked: CheckedSet<'a>,
+    earlier: bool,
+) -> Result<SetAnswer<'a>, NoMemory>
+    ensures { IfOk result (λ answer. (sent : SentValue) (gs : SegValue) (before : List SetEnvelope) (set : SetEnvelope)
+        → checked.entry.text ≡ sent.text → checked.entry.span ≡ span_of sent.delims set
+        → checked.entry.guide ≡ guide_for_set sent.setup sent.sender (element_of gs 1) (element_of gs 8) (element_of set.header 1)
+        → earlier ≡ is_among (control_of set.header) (controls_of before) → IsSetAnswer sent gs before set answer) }
 {
-    for _ in 0..group.set_count() {
-        findings.take();
-    }
-}
-
-/// Passes over what was found out about the groups of an interchange.
-fn pass_groups(interchange: &Interchange<'_>, findings: &mut Findings<'_>)
-    requires { (sent : SentValue) × (more : List Asked)
-        × AllZip IsFound (groups_asked sent [] interchange.now.content.groups ++ more) findings.old }
-    ensures { (sent : SentValue) (more : List Asked)
-        → AllZip IsFound (groups_asked sent [] interchange.now.content.groups ++ more) findings.old
-        → AllZip IsFound more findings.new }
-{
-    for index in 0..interchange.group_count() {
-        pass_group(&interchange.group(index), findings);
-    }
-}
-
-/// Passes over what was found out about a group and its sets.
-fn pass_group(group: &GroupEnvelope<'_, '_>, findings: &mut Findings<'_>)
-    requires { (sent : SentValue) × (before : List GroupEntry) × (groups : List GroupEntry) × (more : List Asked)
-        × AllZip IsFound (groups_asked sent before (group.now ∷ groups) ++ more) findings.old }
-    ensures { (sent : SentValue) (before groups : List GroupEntry) (more : List Asked)
-        → AllZip IsFound (groups_asked sent before (group.now ∷ groups) ++ more) findings.old
-        → AllZip IsFound (groups_asked sent (before ++ group.now ∷ []) groups ++ more) findings.new }
-{
-    findings.take();
-    pass_sets(group, findings);
+    checked.into_answer(alloc, earlier)
 }

@@ -1,78 +1,17 @@
 ghost use Rattle.std.specs.Prelude.{◌≡◌, List, false, IfOk};
-ghost use Rattle.std.specs.List.{All};
-ghost use Rattle.x12_segs.specs.Words.{IsSetSpan};
-ghost use Rattle.env_index.specs.Words.{span_of, GroupEntry};
+ghost use Rattle.env_index.specs.Words.{GroupEntry};
 ghost use Rattle.answered_sets.specs.Judged.{is_fa};
-ghost use Rattle.set_answers.specs.Answers.{AreGroupAnswers, AreSetAnswers, IsGroupAnswer, IsGroupAnswered, answer_by, codes_where};
-ghost use Rattle.set_answers.specs.Answers.{has_number_among};
+ghost use Rattle.set_answers.specs.Answers.{AreSetAnswers, IsGroupAnswer, answer_by, codes_where, has_number_among};
 ghost use Rattle.set_answers.specs.Ends.{ends_of};
 
 use crate::answered::AnsweredGroup;
 use crate::ends::{GroupEnds, ends_of, listed};
-use crate::numbers::{add_number, group_number};
 use crate::sent::Sent;
-use crate::sets::answer_sets;
 use crate::support::support_of;
 use ack_999::{group_codes, group_verdict, totals_of};
-use answered_sets::is_fa;
-use env_index::{GroupElements, GroupEnvelope, Interchange};
+use env_index::{GroupElements, GroupEnvelope};
 use hub_kinds::{GroupAnswer, GroupCode, Items, NoMemory, SetAnswer};
 use std::alloc::Global;
-use std::collections::BTreeSet;
-
-/// The answers to the groups of an interchange, in their order; none to one that acknowledges something itself.
-pub(crate) fn answer_groups<'a>(
-    alloc: Global,
-    sent: &Sent<'a>,
-    interchange: &Interchange<'a>,
-) -> Result<Vec<Option<AnsweredGroup<'a>>>, NoMemory>
-    requires { All (λ group. All (λ set. IsSetSpan sent.now.text (span_of sent.now.delims set)) group.sets) interchange.now.content.groups }
-    ensures { IfOk result (λ v. AreGroupAnswers sent.now interchange.now.content.groups v.items) }
-{
-    let mut answers = Vec::new(alloc);
-    let mut numbers = BTreeSet::new(alloc);
-    for index in 0..interchange.group_count() {
-        let group = interchange.group(index);
-        let earlier = add_number(&mut numbers, group_number(&group))?;
-        let answer = answer_other(alloc, sent, &group, earlier)?;
-        answers.push(answer)?;
-    }
-    Ok(answers)
-}
-
-/// The answer to a group, unless it acknowledges something itself.
-fn answer_other<'a>(
-    alloc: Global,
-    sent: &Sent<'a>,
-    group: &GroupEnvelope<'_, 'a>,
-    earlier: bool,
-) -> Result<Option<AnsweredGroup<'a>>, NoMemory>
-    requires { All (λ set. IsSetSpan sent.now.text (span_of sent.now.delims set)) group.now.sets }
-    ensures { IfOk result (λ answer. (before : List GroupEntry) → earlier ≡ has_number_among before group.now
-        → IsGroupAnswered sent.now before group.now answer) }
-{
-    if is_fa(group) {
-        return Ok(None);
-    }
-    let answered = answer_group(alloc, sent, group, earlier)?;
-    Ok(Some(answered))
-}
-
-/// The answer to a group that acknowledges nothing itself.
-fn answer_group<'a>(
-    alloc: Global,
-    sent: &Sent<'a>,
-    group: &GroupEnvelope<'_, 'a>,
-    earlier: bool,
-) -> Result<AnsweredGroup<'a>, NoMemory>
-    requires spans { All (λ set. IsSetSpan sent.now.text (span_of sent.now.delims set)) group.now.sets }
-    requires other { is_fa group.now ≡ false }
-    ensures { IfOk result (λ answer. (before : List GroupEntry) → earlier ≡ has_number_among before group.now
-        → IsGroupAnswer sent.now before group.now answer) }
-{
-    let sets = answer_sets(alloc, sent, group)?;
-    answer_with(alloc, sent, group, earlier, sets)
-}
 
 /// The answer to a group that acknowledges nothing itself, with these answers to its sets.
 pub(crate) fn answer_with<'a>(

@@ -8,7 +8,6 @@ ghost use Rattle.set_answers.specs.SentAfter.{CanAnswer};
 use crate::batch::Batch;
 use crate::counting::start_after;
 use crate::files::Acknowledgments;
-use crate::finding::Findings;
 use crate::reports::ReportedBy;
 use crate::walk::{CheckedText, answer_entries};
 use env_index::IndexedInterchange;
@@ -123,12 +122,11 @@ fn answer_part<'i, 'a>(
     requires { CanAnswer part.batch.now.text.now part.batch.now.setup.now part.entries.now part.found.items part.sent.items }
     ensures { IfOk result (λ c. IsPartAnswered part.entry c.interchanges.items c.acknowledgments.items) }
 {
-    let mut source = Findings::new(part.found);
     let by = ReportedBy {
         alloc,
         writers: &OneThread,
     };
-    answer_entries(&by, &mut source, part.batch, part.entries, part.sent)
+    answer_entries(&by, part.batch, part.entries, part.found, part.sent)
 }
 
 /// Answers the interchanges of a part. At most `threads` threads answer them, half of the interchanges each.

@@ -8,6 +8,7 @@
 //! - `check_text` checks each set of the interchanges without a fault by its sender's guide, and answers each group and set: the
 //!   standings that it leaves, and the acknowledgments of each partner, byte for byte, are those of these answers, after the
 //!   acknowledgments that stood before;
+//! - `answer_found` gives the same answers by what was found out about each place of the index before; `check_text` finds it out first;
 //! - `answers_to` answers the groups of one interchange, and `judge` gives it the standings that these answers leave;
 //! - the acknowledgment of an interchange has a TA1 where it is answered with one, and a 999 for each group but those of acknowledgments;
 //!   it takes its partner's next interchange number, and its group, where it has 999s, the next group number.
@@ -15,7 +16,7 @@
 //! The theorems of these answers, such as that a set is reported as accepted exactly where it meets its guide, are in `night_law`.
 //!
 //! Numbers are looked up in ordered sets, so that the cost follows the bytes but for a logarithm, whatever numbers somebody
-//! chooses. The answers to one interchange are held at a time.
+//! chooses. What was found out about a text is held until it is answered, and the answers to one interchange at a time.
 //!
 //! Source: X12.5, interchange sender and control number, interchange acknowledgment (TA1); X12.6, functional group and transaction
 //! set; 999 guide (005010X231).
@@ -40,9 +41,7 @@ mod reports;
 mod seen;
 mod sending;
 mod sent;
-mod sets;
 mod settled;
-mod source;
 mod spot;
 mod standings;
 mod support;

@@ -1,9 +1,9 @@
-ghost use Rattle.std.specs.Prelude.{◌≡◌, ◌∷◌, [], ℕ, List, length, replicate, IfOk, OnOk};
+ghost use Rattle.std.specs.Prelude.{◌≡◌, ◌++◌, [], ℕ, List, length, replicate, IfOk, OnOk};
 ghost use Rattle.std.specs.List.{All, AllZip};
-ghost use Rattle.env_index.specs.Words.{IndexEntry, HasSpans};
+ghost use Rattle.env_index.specs.Words.{HasSpans};
 ghost use Rattle.set_answers.specs.CheckedText.{CheckedInterchange, AreAcknowledgments, HaveRoom, IsCheckedBehind};
 ghost use Rattle.set_answers.specs.CheckedText.{judged, nothing_sent};
-ghost use Rattle.set_answers.specs.Asked.{IsFound, asked_of};
+ghost use Rattle.set_answers.specs.Asked.{Asked, IsFound, asked_of, entry_asked};
 ghost use Rattle.set_answers.specs.Headers.{AreHeadersTo};
 ghost use Rattle.set_answers.specs.SentAfter.{AreAnsweredAfter, CanCount, IsNextAnswered};
 
@@ -11,11 +11,12 @@ use crate::acknowledgment::Acknowledgment;
 use crate::answered::AnsweredGroup;
 use crate::batch::Batch;
 use crate::files::Acknowledgments;
+use crate::finding::Findings;
+use crate::found::next_answers;
 use crate::headers::no_headers;
 use crate::reports::{GroupReporters, ReportedBy};
 use crate::sending::acknowledge;
-use crate::source::AnswerSource;
-use crate::spot::OnTheSpot;
+use crate::spot::find_each;
 use crate::standings::standings_of;
 use crate::writers::ReportWriters;
 use answered_sets::{JudgedInterchange, ta1_note};
@@ -53,10 +54,10 @@ pub fn judge<'i, 'a>(
     Ok(JudgedInterchange::new(text, entry.interchange(), sender, entry.fault(), standings))
 }
 
-/// Answers an interchange, and adds its acknowledgment to its sender's.
-fn answer_interchange<'i, 'a, S: AnswerSource<'a>, W: GroupReporters>(
+/// Answers the next interchange by what was found out about it, and adds its acknowledgment to its sender's.
+fn answer_interchange<'i, 'a, W: GroupReporters>(
     by: &ReportedBy<'_, W>,
-    source: &mut S,
+    findings: &mut Findings<'a>,
     batch: &Batch<'_, 'a>,
     entry: &'i IndexedInterchange<'a>,
     files: &mut [Acknowledgments],
@@ -64,21 +65,22 @@ fn answer_interchange<'i, 'a, S: AnswerSource<'a>, W: GroupReporters>(
 ) -> Result<JudgedInterchange<'i, 'a>, NoMemory>
     requires ready { W.can_report by.now.writers.now }
     requires spans { HasSpans batch.now.text.now entry.now.interchange }
-    requires serves { (more : List IndexEntry) × S.serves source.old batch.now.text.now batch.now.setup.now (entry.now ∷ more) }
+    requires found { (more : List Asked)
+        × AllZip IsFound (entry_asked batch.now.text.now batch.now.setup.now entry.now ++ more) findings.old }
     requires count { length files.old ≡ length batch.now.setup.now.partners }
     requires room { CanCount 1 files.old }
     requires headers { AreHeadersTo batch.now.setup.now batch.now.at.now headers.old }
     ensures answered { IfOk result (λ j. IsNextAnswered batch.now.text.now batch.now.setup.now batch.now.at.now entry.entry.now
         files.old files.new j) }
-    ensures serves { OnOk result ((more : List IndexEntry)
-        → S.serves source.old batch.now.text.now batch.now.setup.now (entry.entry.now ∷ more)
-        → S.serves source.new batch.now.text.now batch.now.setup.now more) }
+    ensures rest { OnOk result ((more : List Asked)
+        → AllZip IsFound (entry_asked batch.now.text.now batch.now.setup.now entry.entry.now ++ more) findings.old
+        → AllZip IsFound more findings.new) }
     ensures headers { OnOk result (AreHeadersTo batch.now.setup.now batch.now.at.now headers.new) }
 {
     let Batch { setup, at, text } = *batch;
     let interchange = entry.interchange();
     let sender = setup.sender_of(interchange.header());
-    let groups = source.answers_to(by.alloc, setup, text, sender, entry)?;
+    let groups = next_answers(by.alloc, setup, text, sender, entry, findings)?;
     let note = ta1_note(sender, entry.fault(), interchange);
     let acknowledgment = Acknowledgment::new(interchange.header(), note, groups.as_slice());
     acknowledge(by, files, headers, setup, at, sender, &acknowledgment)?;
@@ -97,10 +99,10 @@ pub fn no_acknowledgments(alloc: Global, setup: &Setup) -> Result<Vec<Acknowledg
     Ok(files)
 }
 
-/// Answers interchanges, in their order.
-fn answer_each<'i, 'a, S: AnswerSource<'a>, W: GroupReporters>(
+/// Answers interchanges by what was found out about them, in their order.
+fn answer_each<'i, 'a, W: GroupReporters>(
     by: &ReportedBy<'_, W>,
-    source: &mut S,
+    findings: &mut Findings<'a>,
     batch: &Batch<'_, 'a>,
     entries: &'i [IndexedInterchange<'a>],
     files: &mut [Acknowledgments],
@@ -108,7 +110,7 @@ fn answer_each<'i, 'a, S: AnswerSource<'a>, W: GroupReporters>(
 ) -> Result<Vec<JudgedInterchange<'i, 'a>>, NoMemory>
     requires ready { W.can_report by.now.writers.now }
     requires spans { All (λ e. HasSpans batch.now.text.now e.interchange) entries.now }
-    requires serves { S.serves source.old batch.now.text.now batch.now.setup.now entries.now }
+    requires found { AllZip IsFound (asked_of batch.now.text.now batch.now.setup.now entries.now) findings.old }
     requires count { length files.old ≡ length batch.now.setup.now.partners }
     requires room { CanCount (length entries.now) files.old }
     requires headers { AreHeadersTo batch.now.setup.now batch.now.at.now headers.old }
@@ -117,23 +119,23 @@ fn answer_each<'i, 'a, S: AnswerSource<'a>, W: GroupReporters>(
 {
     let mut interchanges = Vec::new(by.alloc);
     for i in 0..entries.len() {
-        let judged = answer_interchange(by, source, batch, &entries[i], files, headers)?;
+        let judged = answer_interchange(by, findings, batch, &entries[i], files, headers)?;
         interchanges.push(judged)?;
     }
     Ok(interchanges)
 }
 
-/// Answers interchanges by a source of answers, after these acknowledgments.
-pub(crate) fn answer_entries<'i, 'a, S: AnswerSource<'a>, W: GroupReporters>(
+/// Answers interchanges by what was found out about them, after the acknowledgments in `sent`.
+pub(crate) fn answer_entries<'i, 'a, W: GroupReporters>(
     by: &ReportedBy<'_, W>,
-    source: &mut S,
     batch: &Batch<'_, 'a>,
     entries: &'i [IndexedInterchange<'a>],
+    found: Vec<Finding<'a>>,
     sent: Vec<Acknowledgments>,
 ) -> Result<CheckedText<'i, 'a>, NoMemory>
     requires ready { W.can_report by.now.writers.now }
     requires spans { All (λ e. HasSpans batch.now.text.now e.interchange) entries.now }
-    requires serves { S.serves source.old batch.now.text.now batch.now.setup.now entries.now }
+    requires found { AllZip IsFound (asked_of batch.now.text.now batch.now.setup.now entries.now) found.items }
     requires count { length sent.items ≡ length batch.now.setup.now.partners }
     requires room { CanCount (length entries.now) sent.items }
     ensures { IfOk result (λ c. AreAnsweredAfter batch.now.text.now batch.now.setup.now batch.now.at.now entries.entry.now
@@ -143,32 +145,36 @@ pub(crate) fn answer_entries<'i, 'a, S: AnswerSource<'a>, W: GroupReporters>(
     let files = acknowledgments.as_mut_slice();
     let mut made = no_headers(by.alloc, batch.setup)?;
     let headers = made.as_mut_slice();
-    let interchanges = answer_each(by, source, batch, entries, files, headers)?;
+    let mut findings = Findings::new(found);
+    let interchanges = answer_each(by, &mut findings, batch, entries, files, headers)?;
     Ok(CheckedText {
         interchanges,
         acknowledgments,
     })
 }
 
-/// Answers a text by a source of answers.
-pub(crate) fn answer_text<'i, 'a, S: AnswerSource<'a>, W: GroupReporters>(
-    by: &ReportedBy<'_, W>,
-    source: &mut S,
+/// Answers a text by what was found out about it, one interchange after another, after the acknowledgments in `sent`; `writers` writes
+/// the 999s of each interchange.
+pub(crate) fn answer_text<'i, 'a, W: GroupReporters>(
+    alloc: Global,
+    writers: &W,
     setup: &'a Setup,
     at: &At,
     index: &'i Index<'a>,
+    found: Vec<Finding<'a>>,
     sent: Vec<Acknowledgments>,
 ) -> Result<CheckedText<'i, 'a>, NoMemory>
-    requires ready { W.can_report by.now.writers.now }
+    requires ready { W.can_report writers.now }
     requires spans { All (λ e. HasSpans index.now.text e.interchange) index.now.entries }
-    requires serves { S.serves source.old index.now.text setup.now index.now.entries }
+    requires found { AllZip IsFound (asked_of index.now.text setup.now index.now.entries) found.items }
     requires sent { HaveRoom setup.now at.now (length index.now.entries) sent.items }
     ensures { IfOk result (λ c. IsCheckedBehind index.entry.now.text setup.entry.now at.now index.entry.now.entries
         c.interchanges.items sent.items c.acknowledgments.items) }
 {
+    let by = ReportedBy { alloc, writers };
     let text = index.text();
     let batch = Batch { setup, at, text };
-    answer_entries(by, source, &batch, index.interchanges(), sent)
+    answer_entries(&by, &batch, index.interchanges(), found, sent)
 }
 
 /// Checks the sets of a text by the guides of their senders and answers them: each interchange of the settled index, in their
@@ -188,13 +194,12 @@ pub fn check_text<'i, 'a, W: ReportWriters>(
     ensures { IfOk result (λ c. IsCheckedBehind index.entry.now.text setup.entry.now at.now index.entry.now.entries
         c.interchanges.items sent.items c.acknowledgments.items) }
 {
-    let mut source = OnTheSpot;
-    let by = ReportedBy { alloc, writers };
-    answer_text(&by, &mut source, setup, at, index, sent)
+    let found = find_each(alloc, setup, index.text(), index.interchanges())?;
+    answer_found(alloc, writers, setup, at, index, found, sent)
 }
 
-/// Answers a text of which all was found out before: the same as `check_text`, by what was found out about each place of the
-/// index, in their order. The only error is out of memory.
+/// Answers a text by `found`, what was found out about each place of the index, in their order: the same as `check_text`, which finds
+/// it out itself. The only error is out of memory.
 pub fn answer_found<'i, 'a, W: ReportWriters>(
     alloc: Global,
     writers: &W,

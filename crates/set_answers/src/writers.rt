@@ -6,9 +6,8 @@ ghost use Rattle.set_answers.specs.CheckedText.{HaveRoom, IsCheckedBehind};
 
 use crate::batch::Batch;
 use crate::files::Acknowledgments;
-use crate::finding::Findings;
 use crate::halving::{FEWEST, Part, answer_by};
-use crate::reports::{GroupReporters, ReportedBy};
+use crate::reports::GroupReporters;
 use crate::walk::{CheckedText, answer_text};
 use env_index::Index;
 use hub_kinds::NoMemory;
@@ -50,7 +49,7 @@ impl ReportWriters for OneThread {
         found: Vec<Finding<'a>>,
         sent: Vec<Acknowledgments>,
     ) -> Result<CheckedText<'i, 'a>, NoMemory> {
-        answer_alone(alloc, self, setup, at, index, found, sent)
+        answer_text(alloc, self, setup, at, index, found, sent)
     }
 }
 
@@ -66,7 +65,7 @@ impl<'r, R: Threads + Sync> ReportWriters for ManyThreads<'r, R> {
     ) -> Result<CheckedText<'i, 'a>, NoMemory> {
         let entries = index.interchanges();
         if self.workers < 2 || entries.len() < FEWEST {
-            return answer_alone(alloc, self, setup, at, index, found, sent);
+            return answer_text(alloc, self, setup, at, index, found, sent);
         }
         let text = index.text();
         let batch = Batch { setup, at, text };
@@ -78,26 +77,4 @@ impl<'r, R: Threads + Sync> ReportWriters for ManyThreads<'r, R> {
         };
         answer_by(self.rt, alloc, part, self.workers)
     }
-}
-
-/// Answers a batch of which all was found out before, one interchange after another; `writers` writes the 999s of each.
-fn answer_alone<'i, 'a, W: GroupReporters>(
-    alloc: Global,
-    writers: &W,
-    setup: &'a Setup,
-    at: &At,
-    index: &'i Index<'a>,
-    found: Vec<Finding<'a>>,
-    sent: Vec<Acknowledgments>,
-) -> Result<CheckedText<'i, 'a>, NoMemory>
-    requires ready { W.can_report writers.now }
-    requires spans { All (λ e. HasSpans index.now.text e.interchange) index.now.entries }
-    requires found { AllZip IsFound (asked_of index.now.text setup.now index.now.entries) found.items }
-    requires sent { HaveRoom setup.now at.now (length index.now.entries) sent.items }
-    ensures { IfOk result (λ c. IsCheckedBehind index.entry.now.text setup.entry.now at.now index.entry.now.entries
-        c.interchanges.items sent.items c.acknowledgments.items) }
-{
-    let mut source = Findings::new(found);
-    let by = ReportedBy { alloc, writers };
-    answer_text(&by, &mut source, setup, at, index, sent)
 }

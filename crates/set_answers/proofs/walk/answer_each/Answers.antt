@@ -1,9 +1,11 @@
 use Rattle.std.proofs.Common.{◌≡◌, ◌≤◌, ℕ, ◌+◌, drop, List, [], ◌∷◌, ◌++◌, Some, length, refl, sym, ap, subst, ◌∙◌, arith}
 use Rattle.std.proofs.Common.{length-append}
 use Rattle.std.specs.Prelude.{slice_get}
+use Rattle.std.specs.List.{AllZip}
 use Rattle.std.proofs.lemmas.Option.{slice_get_read}
 use Rattle.env_index.specs.Words.{IndexEntry, HasSpans}
 use Rattle.answered_sets.specs.Judged.{JudgedValue}
+use Rattle.set_answers.specs.Asked.{IsFound, asked_of}
 use Rattle.set_answers.specs.CheckedText.{CheckedInterchange, IsCheckedAs, judged}
 use Rattle.set_answers.proofs.Acknowledging.{sent_both, sent_none}
 use Rattle.set_answers.proofs.Growing.{at_index, map_snoc}
@@ -20,7 +22,7 @@ loop-i-init g c = (
   c.new-interchanges.ensures.items,
   sent_none c.args.batch.now.setup.now c.args.batch.now.at.now c.args.files.now,
   c.requires.headers,
-  c.requires.serves,
+  c.requires.found,
 )
 
 pub answer_interchange-requires : goal.answer_interchange-requires
@@ -34,30 +36,19 @@ answer_interchange-requires g c =
     let there : slice_get entries i ≡ Some c.index-entries-i.result =
     slice_get_read entries _ i c.index-entries-i.result refl c.loop-i-test.true c.index-entries-i.is in
     let left : length done.0 + 1 ≤ length entries = omega (arith, done.2, c.loop-i-test.true) in
-    λ k. (
-      (refl, (refl, tt)),
-      (
-        c.requires.ready,
-        (
-          at_index (λ (e : IndexEntry). HasSpans text e.interchange) entries i c.index-entries-i.result there c.requires.spans,
-          (
-            (
-              drop (i + 1) entries,
-              subst (λ (es : List IndexEntry). g.S.AnswerSource.serves c.loop-i.source text setup es)
-                  (drop_one_more entries i c.index-entries-i.result there) done.6,
-            ),
-            (
-              done.4.count ∙ c.requires.count,
-              (
-                room_after setup batch.at.now done.0 c.args.files.now c.loop-i.files (length entries) 1 c.requires.count done.4
-                    c.requires.room left,
-                done.5,
-              ),
-            ),
-          ),
-        ),
-      ),
-    )
+    record {
+      ready = c.requires.ready;
+      spans = at_index (λ (e : IndexEntry). HasSpans text e.interchange) entries i c.index-entries-i.result there c.requires.spans;
+      found = (
+        asked_of text setup (drop (i + 1) entries),
+        subst (λ (es : List IndexEntry). AllZip IsFound (asked_of text setup es) c.loop-i.findings)
+            (drop_one_more entries i c.index-entries-i.result there) done.6,
+      );
+      count = done.4.count ∙ c.requires.count;
+      room = room_after setup batch.at.now done.0 c.args.files.now c.loop-i.files (length entries) 1 c.requires.count done.4
+          c.requires.room left;
+      headers = done.5;
+    }
 
 pub loop-i-preserved : goal.loop-i-preserved
 loop-i-preserved g c =
@@ -84,8 +75,8 @@ loop-i-preserved g c =
       sent_both setup at done (next.answered ∷ []) c.args.files.now c.loop-i.files c.answer_interchange.new.files c.loop-i.invariant.4
           next.sent,
       c.in_ok-judged.ensures.headers,
-      c.in_ok-judged.ensures.serves (drop (i + 1) entries)
-          (subst (λ (es : List IndexEntry). g.S.AnswerSource.serves c.loop-i.source text setup es)
+      c.in_ok-judged.ensures.rest (asked_of text setup (drop (i + 1) entries))
+          (subst (λ (es : List IndexEntry). AllZip IsFound (asked_of text setup es) c.loop-i.findings)
           (drop_one_more entries i c.index-entries-i.result there) c.loop-i.invariant.6),
     )
 

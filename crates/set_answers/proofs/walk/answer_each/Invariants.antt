@@ -1,4 +1,6 @@
 use Rattle.std.proofs.Common.{◌≡◌, List, drop, length, map}
+use Rattle.std.specs.List.{AllZip}
+use Rattle.set_answers.specs.Asked.{IsFound, asked_of}
 use Rattle.set_answers.specs.CheckedText.{CheckedInterchange, IsCheckedAs, judged}
 use Rattle.set_answers.specs.Headers.{AreHeadersTo}
 use Rattle.set_answers.specs.Pairs.{ArePairs}
@@ -13,4 +15,4 @@ invariant-loop-i g l = (done : List CheckedInterchange)
     × (l.interchanges.items ≡ map (judged l.batch.text.now) done)
     × AreSentAfter l.batch.setup.now l.batch.at.now done l.initial.files l.files
     × AreHeadersTo l.batch.setup.now l.batch.at.now l.headers
-    × g.S.AnswerSource.serves l.source l.batch.text.now l.batch.setup.now (drop l.i l.entries)
+    × AllZip IsFound (asked_of l.batch.text.now l.batch.setup.now (drop l.i l.entries)) l.findings

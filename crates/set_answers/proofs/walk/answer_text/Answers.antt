@@ -1,25 +1,32 @@
-use Rattle.std.proofs.Common.{ℕ, List, length, refl, sym, subst}
-use Rattle.std.specs.List.{All}
+use Rattle.std.proofs.Common.{ℕ, List, length, sym, subst}
+use Rattle.std.specs.List.{All, AllZip}
 use Rattle.std.proofs.lemmas.Result.{IfOk-weaker}
 use Rattle.env_index.specs.Words.{IndexEntry, HasSpans}
+use Rattle.set_answers.specs.Asked.{IsFound, asked_of}
 use Rattle.set_answers.specs.SentAfter.{CanCount}
 use Rattle.set_answers.proofs.Acknowledging.{checked_after}
 use Rattle.set_answers.proofs.Starting.{can_count}
 use Rattle.set_answers.proofs.walk.answer_text.Goals as goal
 
 pub answer_entries-requires : goal.answer_entries-requires
-answer_entries-requires g c κs =
+answer_entries-requires g c =
     let setup = c.args.setup.now in
     let index = c.args.index.now in
     let text = sym c.text-text.ensures in
     let entries = sym c.interchanges.ensures.value in
     let spans = subst (λ (t : List ℕ). All (λ e. HasSpans t e.interchange) c.interchanges.result.now) text
     (subst (λ (es : List IndexEntry). All (λ e. HasSpans index.text e.interchange) es) entries c.requires.spans) in
-    let serves = subst (λ (t : List ℕ). g.S.AnswerSource.serves c.args.source.now t setup c.interchanges.result.now) text
-    (subst (λ (es : List IndexEntry). g.S.AnswerSource.serves c.args.source.now index.text setup es) entries c.requires.serves) in
+    let found = subst (λ (t : List ℕ). AllZip IsFound (asked_of t setup c.interchanges.result.now) c.args.found.items) text
+    (subst (λ (es : List IndexEntry). AllZip IsFound (asked_of index.text setup es) c.args.found.items) entries c.requires.found) in
     let room = subst (λ (es : List IndexEntry). CanCount (length es) c.args.sent.items) entries
     (can_count setup c.args.at.now (length index.entries) c.args.sent.items c.requires.sent) in
-    ((refl, (refl, tt)), (c.requires.ready, (spans, (serves, (c.requires.sent.1.count, room)))))
+    record {
+      ready = c.requires.ready;
+      spans = spans;
+      found = found;
+      count = c.requires.sent.1.count;
+      room = room;
+    }
 
 pub returns : goal.returns
 returns g c =
