@@ -10,6 +10,7 @@ use Rattle.std.proofs.Math.Seq.{take-length}
 use Rattle.std.proofs.lemmas.Bool.{false≢true}
 use Rattle.std.proofs.lemmas.List.Concat.{flat_map-append}
 use Rattle.std.proofs.lemmas.List.Elements.{filter-append}
+use Rattle.csv_fields.specs.declared.columns.TheConstants as column
 use Rattle.x12_segs.specs.Words.{element_of}
 use Rattle.env_index.specs.Words.{GroupEntry}
 use Rattle.partner_setup.specs.declared.partner.Partner.{Partner}
@@ -72,10 +73,10 @@ module _ (by : TrackedBy) (sound : IsSoundSetup by.setup) (place : ℕ) (partner
     head = head_is by.setup by.documents n p notes
 
     abbrev chosen : (here said : Bool) → Row → List Delivery
-    chosen here said r = if here && said then record { set = p; numbers = drop 22 r } ∷ [] else []
+    chosen here said r = if here && said then record { set = p; numbers = drop column.RECEIVER_ISA13 r } ∷ [] else []
 
     abbrev says : Row → Bool
-    says r = bytes_eq (slice_index_or r 18 []) (codes "delivered")
+    says r = bytes_eq (slice_index_or r column.OUTCOME []) (codes "delivered")
 
     -- the row for one target
     abbrev one : (t : ℕ) → List Delivery

@@ -6,6 +6,7 @@ use Rattle.std.specs.List.{flat_map}
 use Rattle.std.proofs.lemmas.List.{length-map}
 use Rattle.std.proofs.lemmas.List.Concat.{flat_map-append}
 use Rattle.std.proofs.lemmas.List.Elements.{All-head, All-tail}
+use Rattle.csv_fields.specs.declared.columns.TheConstants as column
 use Rattle.x12_segs.specs.Words.{element_of}
 use Rattle.hub_kinds.specs.Words.{group_code_text, group_verdict_text, set_code_text, verdict_text}
 use Rattle.env_index.specs.Words.{GroupEntry}
@@ -44,12 +45,12 @@ rows_append setup [] qs (e ∷ es) fs one two = absurd one
 rows_append setup (r ∷ rs) qs [] fs one two = absurd one
 rows_append setup (r ∷ rs) qs (e ∷ es) fs one two = (one.0, rows_append setup rs qs es fs one.1 two)
 
--- the first eighteen fields of a row
+-- the fields of a row before its outcome
 pub record IsHead (n : ℕ) (p : PlacedValue) (head : Row) : Type 0 where
   pub names : (end : Row) → length end ≡ 7 → NamesSet (head ++ end) n p
   pub outcome : (end : Row) → outcome_in (head ++ end) ≡ field end 0
   pub receiver : (end : Row) → receiver_in (head ++ end) ≡ field end 3
-  pub last : (end : Row) → drop 22 (head ++ end) ≡ drop 4 end
+  pub last : (end : Row) → drop column.RECEIVER_ISA13 (head ++ end) ≡ drop 4 end
 
 abbrev head_by : SetupValue → List DocumentValue → (n : ℕ) → PlacedValue → GroupNotes → (listed : Bool) → Row
 head_by setup documents n p notes listed =

@@ -3,6 +3,7 @@ ghost use Rattle.std.specs.Prelude.{IfErr, IfOk, IfSome, OnOk};
 ghost use Rattle.std.specs.List.{filter_map, list_all};
 ghost use Rattle.std.specs.Option.{option_to_list};
 ghost use Rattle.csv.specs.Records.{fields_of};
+ghost use Rattle.csv_fields.specs.declared.columns.TheConstants as column;
 ghost use Rattle.night_definition.specs.Header.{header_at};
 ghost use Rattle.hub_kinds.specs.Numbers.{value_of};
 ghost use Rattle.night_entries.specs.Keys as keys;
@@ -102,8 +103,8 @@ fn delivered_key<'a>(
     row: &ByteRecord,
 ) -> Result<Text, EntryFault>
     ensures key { IfOk result (λ key. let cells = fields_of row.now in
-        key ≡ keys.set_key (header_at input.now (value_of (keys.cell cells 1))) (keys.cell cells 7) (keys.cell cells 13)
-        (found_in receivers.now (keys.cell cells 21))) }
+        key ≡ keys.set_key (header_at input.now (value_of (keys.cell cells column.OFFSET))) (keys.cell cells column.GS06)
+        (keys.cell cells column.ST02) (found_in receivers.now (keys.cell cells column.RECEIVER))) }
     ensures good { IfOk result (λ _. has_key input.now (found_in receivers.now) (fields_of row.now) ≡ true) }
     ensures refused { IfErr result (IsTrackFault (has_key input.now (found_in receivers.now) (fields_of row.now))) }
 {

@@ -1,14 +1,6 @@
--- own: the fields of a table that says where each set of a night is, and rows of few of them.
-use Rattle.std.specs.Prelude.{ℕ, List, [], ◌∷◌, ◌++◌, codes}
+-- own: rows with few fields in the table that says where each set of a night is, and words with spaces.
+use Rattle.std.specs.Prelude.{ℕ, List, [], ◌∷◌, ◌++◌}
 use Rattle.std.specs.List.{flat_map}
-
--- the names of the fields
-abbrev pub column_names : List (List ℕ)
-column_names =
-    codes "interchange" ∷ codes "offset" ∷ codes "sender" ∷ codes "isa13" ∷ codes "fault" ∷ codes "ta1" ∷ codes "gs01" ∷ codes "gs06"
-    ∷ codes "gs02" ∷ codes "gs03" ∷ codes "group_verdict" ∷ codes "group_codes" ∷ codes "st01" ∷ codes "st02" ∷ codes "document"
-    ∷ codes "verdict" ∷ codes "codes" ∷ codes "faults" ∷ codes "outcome" ∷ codes "byte" ∷ codes "segment" ∷ codes "receiver"
-    ∷ codes "receiver_isa13" ∷ codes "receiver_gs06" ∷ codes "receiver_st02" ∷ []
 
 -- words with spaces between them
 abbrev pub spaced_words : List (List ℕ) → List ℕ

@@ -5,13 +5,14 @@ use Rattle.std.specs.Option.{option_map_or}
 use Rattle.std.specs.List.{list_any}
 use Rattle.partner_setup.specs.declared.partner.Partner.{Partner}
 use Rattle.csv_fields.specs.Csv.{table_text}
+use Rattle.csv_fields.specs.Columns.{column_names}
 use Rattle.set_documents.specs.Documents.{DocumentValue}
 use Rattle.night_definition.specs.Setup.{Setup}
 use Rattle.night_definition.specs.Answers.{Answer, AnsweredGroup, Answered}
 use Rattle.night_definition.specs.Deliveries.{Sent, Outcome, delivered, held_for_delimiter, held_for_route, is_deliverable, is_delivered_to}
 use Rattle.night_definition.specs.Deliveries.{outcomes, sent}
 use Rattle.night_definition.specs.Night.{answered_text}
-use Rattle.track_definition.specs.Columns.{column_names, no_set_cells, plain_end}
+use Rattle.track_definition.specs.Columns.{no_set_cells, plain_end}
 use Rattle.track_definition.specs.Hindrance.{hindrance_to}
 use Rattle.track_definition.specs.Cells.{delivered_cells, group_cells, held_cells, interchange_cells, set_cells}
 

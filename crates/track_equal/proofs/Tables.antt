@@ -42,7 +42,7 @@ use Rattle.night_equal_writing.specs.Texts.{TextsAreOne}
 use Rattle.night_equal_writing.specs.Totals.{TotalsAreOne}
 use Rattle.night_equal_writing.proofs.ForAbove.{clean_is}
 use Rattle.night_equal_night.proofs.ForAbove.{IsReady, TextLaws, known_answers, known_seen, known_told, ready}
-use Rattle.track_definition.specs.Columns.{column_names}
+use Rattle.csv_fields.specs.Columns.{column_names}
 use Rattle.track_definition.specs.Rows as room
 use Rattle.track_definition.specs.Rows.{Placed, all_sets_in, table_of}
 use Rattle.track_equal.specs.Table.{IsTableOf, TracksAreOne}

@@ -2,7 +2,7 @@
 use Rattle.std.specs.Prelude.{ℕ, ◌==◌, ◌||◌, Bool, false, List, [], ◌∷◌, ◌++◌, codes, map, if◌then◌else◌}
 use Rattle.std.specs.List.{flat_map}
 use Rattle.csv_fields.specs.Csv.{record_text}
-use Rattle.track_read.specs.Table.{column_line}
+use Rattle.csv_fields.specs.Columns.{column_line}
 use Rattle.track_read.specs.declared.export.Form.{Form}
 use Rattle.track_read.specs.declared.export.Form.TheVariants as form
 

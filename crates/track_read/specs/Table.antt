@@ -1,17 +1,12 @@
 -- The table of a night's sets, as `nighthub_track` writes it (RFC 4180, comma-separated values; which columns there are, is own): the names
 -- of the columns, and then a record for each set and receiver.
-use Rattle.std.specs.Prelude.{◌≡◌, ℕ, ◌==◌, Bool, true, List, [], ◌++◌, codes, length}
+use Rattle.std.specs.Prelude.{◌≡◌, ℕ, ◌==◌, Bool, true, List, [], ◌++◌, length}
 use Rattle.std.specs.List.{list_all}
 use Rattle.std.specs.Option.{unwrap_or}
 use Rattle.csv.specs.Records.{field_at}
 use Rattle.csv_fields.specs.Csv.{table_text}
+use Rattle.csv_fields.specs.Columns.{column_line}
 use Rattle.csv_fields.specs.declared.columns.TheConstants.{COLUMNS}
-
--- the columns of an interchange, of its group, of a set and its answer, and of the set's outcome
-abbrev pub column_line : List ℕ
-column_line =
-    codes "interchange,offset,sender,isa13,fault,ta1,gs01,gs06,gs02,gs03,group_verdict,group_codes,"
-    ++ codes "st01,st02,document,verdict,codes,faults,outcome,byte,segment,receiver,receiver_isa13,receiver_gs06,receiver_st02\r\n"
 
 -- a row has all fields
 abbrev pub is_wide : (row : List (List ℕ)) → Bool

@@ -3,8 +3,9 @@ ghost use Rattle.csv.specs.Records.{fields_of};
 ghost use Rattle.csv_fields.specs.Csv as csv;
 ghost use Rattle.track_read.specs.Export as export;
 
-use crate::written::{column_line, lent_fields};
+use crate::written::lent_fields;
 use csv::ByteRecord;
+use csv_fields::columns::column_line;
 use csv_fields::{append_end, append_field};
 use hub_kinds::NoMemory;
 use std::alloc::Global;

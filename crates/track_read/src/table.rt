@@ -6,9 +6,9 @@ ghost use Rattle.csv.specs.declared.parser.State.TheVariants as st;
 ghost use Rattle.csv_fields.specs.Csv.{record_text, table_text};
 ghost use Rattle.track_read.specs.Table as table;
 
-use crate::written::{append_record, column_line};
+use crate::written::append_record;
 use csv::{ByteRecord, ReaderBuilder};
-use csv_fields::columns::COLUMNS;
+use csv_fields::columns::{COLUMNS, column_line};
 use hub_kinds::NoMemory;
 use std::alloc::Global;
 

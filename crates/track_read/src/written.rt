@@ -1,21 +1,12 @@
 ghost use Rattle.std.specs.Prelude.{◌≡◌, ◌++◌, IfOk, OnOk};
 ghost use Rattle.csv.specs.Records.{fields_of};
 ghost use Rattle.csv_fields.specs.Csv as csv;
-ghost use Rattle.track_read.specs.Table as table;
 
 use crate::fields::field;
 use csv::ByteRecord;
 use csv_fields::{append_end, append_field, append_fields};
 use hub_kinds::NoMemory;
 use std::alloc::Global;
-
-/// The first line of a table.
-pub(crate) fn column_line() -> &'static [u8]
-    ensures { result.now ≡ table.column_line }
-{
-    b"interchange,offset,sender,isa13,fault,ta1,gs01,gs06,gs02,gs03,group_verdict,group_codes,st01,st02,document,verdict,codes,\
-faults,outcome,byte,segment,receiver,receiver_isa13,receiver_gs06,receiver_st02\r\n"
-}
 
 /// The fields of `row`, lent.
 pub(crate) fn lent_fields(alloc: Global, row: &ByteRecord) -> Result<Vec<&[u8]>, NoMemory>

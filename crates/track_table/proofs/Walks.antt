@@ -1,7 +1,7 @@
 -- The rows of a night, with a target, a set, a group and an interchange more.
 use Rattle.std.proofs.Common.{◌≡◌, ℕ, ◌+◌, List, [], ◌∷◌, ◌++◌}
 use Rattle.std.proofs.Common.{Some, length, take, map, refl, sym, ap, subst, ◌∙◌, arith, append_assoc, append-nil}
-use Rattle.std.specs.Prelude.{decimal, slice_get, slice_index_or}
+use Rattle.std.specs.Prelude.{decimal, drop, slice_get, slice_index_or}
 use Rattle.std.specs.List.{flat_map}
 use Rattle.std.proofs.lemmas.List.{length-take-le}
 use Rattle.std.proofs.lemmas.List.Concat.{flat_map-append}
@@ -14,9 +14,7 @@ use Rattle.answered_sets.specs.Judged.{JudgedValue, PlacedValue, all_sets, sets_
 use Rattle.mailbox.proofs.ForAbove.{groups_snoc, sets_snoc, take_one_more}
 use Rattle.track_table.specs.declared.notes.GroupNotes.{GroupNotes}
 use Rattle.track_table.specs.declared.notes.Notes.{Notes}
-use Rattle.x12_bytes.specs.Header.{field_of}
-use Rattle.answered_sets.specs.Answered.{ta1_note}
-use Rattle.track_table.specs.Cells.{fault_cell, group_cells, interchange_cells, no_set_notes, note_cell, sender_name, set_cells}
+use Rattle.track_table.specs.Cells.{group_cells, interchange_cells, no_set_notes, set_cells}
 use Rattle.csv_fields.specs.Csv.{cells_text, fields_text, field_text, record_text, table_text}
 use Rattle.track_table.specs.Rows.{TrackedBy, ends_of, groups_rows, interchange_rows, notes_at, rows_from, set_rows, sets_at}
 use Rattle.track_table.specs.Rows.{sets_rows}
@@ -186,9 +184,7 @@ rows_are_records c cs ss (end ∷ ends) =
 
 -- the fields of an interchange after its number
 abbrev told : SetupValue → JudgedValue → List (List ℕ)
-told setup x =
-    decimal x.interchange.start ∷ sender_name setup x.sender ∷ field_of x.interchange.header 13 ∷ fault_cell x.fault
-    ∷ note_cell (ta1_note x.sender x.fault x.interchange) ∷ []
+told setup x = drop 1 (interchange_cells setup 0 x)
 
 pub head_made : (setup : SetupValue) (n : ℕ) (x : JudgedValue) (gs : List (List ℕ))
     → cells_text (interchange_cells setup n x) ++ fields_text gs ≡ cells_text (interchange_cells setup n x ++ gs)

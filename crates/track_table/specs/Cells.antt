@@ -16,7 +16,8 @@ use Rattle.track_table.specs.declared.notes.GroupNotes.{GroupNotes}
 use Rattle.track_table.specs.declared.notes.SetNotes.{SetNotes}
 use Rattle.set_documents.specs.Documents.{DocumentValue, document_number}
 pub use Rattle.night_report.specs.Report.{name_by, sender_name}
-pub use Rattle.track_definition.specs.Columns.{column_names, no_set_cells, plain_end, spaced_words}
+pub use Rattle.csv_fields.specs.Columns.{column_names}
+pub use Rattle.track_definition.specs.Columns.{no_set_cells, plain_end, spaced_words}
 use Rattle.track_table.specs.declared.hindrance.Hindrance.{Hindrance}
 use Rattle.track_table.specs.declared.mailed.Mailed.{Mailed}
 use Rattle.track_table.specs.declared.limits.TheConstants.{MOST_SHOWN}
@@ -66,7 +67,7 @@ set_cells documents p notes =
     element_of p.set.header 1 ∷ element_of p.set.header 2 ∷ document_number documents (element_of p.set.header 1) (drop 1 (segments_in p))
     ∷ answer_cells p notes
 
--- the first eighteen fields of a set's rows
+-- the fields of a set's rows before its outcome
 abbrev pub head_cells : SetupValue → List DocumentValue → (n : ℕ) → PlacedValue → GroupNotes → List (List ℕ)
 head_cells setup documents n p notes =
     (interchange_cells setup n p.interchange ++ group_cells p.group p.standing.verdict notes.codes)

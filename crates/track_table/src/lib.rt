@@ -11,9 +11,8 @@
 //! Numbers of mailboxes are those of the mailbox's own definition (`mailbox`): a tally gives the first numbers of a partner, and not which
 //! group a set is in.
 //!
-//! Source: RFC 4180; X12.5, interchange, interchange sender, interchange control number (ISA13) and interchange acknowledgment (TA1);
-//! X12.6, functional group and transaction set; 999 guide (005010X231), IK5 and AK9. Which rows there are, and what is kept of the
-//! answers, is own.
+//! Source: RFC 4180; X12.5, interchange, the elements of its header (ISA) and interchange acknowledgment (TA1); X12.6, functional group and
+//! transaction set; 999 guide (005010X231), IK5 and AK9. Which rows there are, and what is kept of the answers, is own.
 //!
 //! Tests: `trial_track`.
 #![tactic(auto)]

@@ -14,6 +14,6 @@ returns-in-Some-clause-rows c =
     rw c.in-Some.is at (strip_prefix_is Decides-eqb c.args.bytes.now columns c.strip_prefix.result c.strip_prefix.ensures.cases) in
     IfOk-weaker c.rows_of.result _ _ (λ found some. IfSome_then found some (λ rows has. record {
       text = begins ∙ ap (λ (t : List ℕ). columns ++ t) has.records
-          ∙ ap (λ (t : List ℕ). t ++ table_text (map fields_of rows.items)) c.column_line.ensures;
+          ∙ ap (λ (t : List ℕ). t ++ table_text (map fields_of rows.items)) c.column_line.ensures.names;
       width = has.width;
     })) c.rows_of.ensures.rows
