@@ -17,9 +17,7 @@ use job_pool::OneThread;
 use moment::At;
 use night_report::report_text;
 use partner_setup::Setup;
-use set_answers::{
-    CheckedText, answer_found, check_text, no_acknowledgments, settled_faults,
-};
+use set_answers::{CheckedText, answer_found, check_text, no_acknowledgments, settled_faults};
 use set_check::{Finding, check_set};
 use std::alloc::Global;
 use std::test::Fail;
