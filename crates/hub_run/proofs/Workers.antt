@@ -1,11 +1,11 @@
 -- The night of what workers found out of a text.
 use Rattle.std.proofs.Common.{◌∙◌, ℕ, List, ap, refl, subst, sym}
-use Rattle.std.specs.List.{All, AllZip}
+use Rattle.std.specs.List.{All}
 use Rattle.env_index.specs.Words.{HasSpans, IndexEntry, IndexValue, settled}
 use Rattle.partner_setup.specs.Setup.{SetupValue}
 use Rattle.set_answers.proofs.ForAbove.{settled_spans}
-use Rattle.set_answers.specs.Asked.{IsFound, asked_of}
 use Rattle.set_answers.specs.CheckedText.{AreCheckedAs}
+use Rattle.set_answers.specs.FoundRows.{AreFoundRows}
 use Rattle.set_answers.specs.Settled.{settled_faults}
 use Rattle.set_findings.specs.FoundOut.{IsFoundOut}
 use Rattle.set_findings.specs.declared.found.FoundText.{FoundText}
@@ -20,10 +20,10 @@ found_spans text setup found is =
 
 -- all that is asked is found
 pub found_asked : (text : List ℕ) (setup : SetupValue) (found : FoundText) → IsFoundOut text setup found
-    → AllZip IsFound (asked_of found.index.text setup found.index.entries) found.findings.items
+    → AreFoundRows found.index.text setup found.index.entries found.rows
 found_asked text setup found is =
-    subst (λ (t : List ℕ). AllZip IsFound (asked_of t setup found.index.entries) found.findings.items)
-    (sym (ap (λ (i : IndexValue). i.text) is.index ∙ is.read.same)) is.found
+    subst (λ (t : List ℕ). AreFoundRows t setup found.index.entries found.rows)
+    (sym (ap (λ (i : IndexValue). i.text) is.index ∙ is.read.same)) is.rows
 
 -- the night of the index is that of the text
 pub night_found : (text : List ℕ) (setup : SetupValue) (at : List ℕ) (found : FoundText) (night : Night) → IsFoundOut text setup found

@@ -70,8 +70,8 @@ fn share_night<'a, G: Gate + Sync, R: Threads + Wait + Clock + Sync>(
 {
     let guides = FastGuides::of(alloc, setup)?;
     let found = find_out(rt, alloc, setup, &guides, text, cuts, workers, gate)?;
-    let FoundText { index, findings } = found;
+    let FoundText { index, rows } = found;
     let writers = ManyThreads { rt, workers };
-    let night = write_found(alloc, &writers, setup, at, &index, findings)?;
+    let night = write_found(alloc, &writers, setup, at, &index, rows)?;
     Ok(night)
 }

@@ -1,7 +1,7 @@
 ghost use Rattle.std.specs.Prelude.{◌≡◌, IfOk, length};
-ghost use Rattle.std.specs.List.{All, AllZip};
+ghost use Rattle.std.specs.List.{All};
 ghost use Rattle.env_index.specs.Words.{HasSpans};
-ghost use Rattle.set_answers.specs.Asked.{IsFound, asked_of};
+ghost use Rattle.set_answers.specs.FoundRows.{AreFoundRows};
 ghost use Rattle.night_batches.specs.Night.{IsNightIn};
 ghost use Rattle.night_batches.specs.Writing.{HasRoomFor, IsBatchWritten, nothing_written};
 
@@ -12,8 +12,7 @@ use moment::At;
 use night_batches::{Night, Writing};
 use night_report::LineWriters;
 use partner_setup::Setup;
-use set_answers::ReportWriters;
-use set_check::Finding;
+use set_answers::{FoundRows, ReportWriters};
 use std::alloc::Global;
 
 /// Nothing yet, with room for the one batch of this index.
@@ -62,20 +61,20 @@ pub(crate) fn write_night<'a>(
     close_one(alloc, setup, at, index, written)
 }
 
-/// Writes by what was found out about the places of the index.
+/// Writes by what was `found` out about the interchanges of the `index` and about their places.
 pub(crate) fn write_found<'a, W: Writers + ReportWriters + LineWriters>(
     alloc: Global,
     writers: &W,
     setup: &'a Setup,
     at: &At,
     index: &Index<'a>,
-    found: Vec<Finding<'a>>,
+    found: FoundRows<'a>,
 ) -> Result<Night, NoMemory>
     requires ready { W.is_ready writers.now }
     requires reports { W.can_report writers.now }
     requires lines { W.can_tell writers.now }
     requires spans { All (λ e. HasSpans index.now.text e.interchange) index.now.entries }
-    requires found { AllZip IsFound (asked_of index.now.text setup.now index.now.entries) found.items }
+    requires found { AreFoundRows index.now.text setup.now index.now.entries found }
     ensures { IfOk result (IsNightIn index.now setup.now at.now) }
 {
     let nothing = nothing_before(alloc, setup, at, index)?;

@@ -1,11 +1,11 @@
 ghost use Rattle.std.specs.Prelude.{◌≡◌, List, IfOk, IfSome, length, map};
-ghost use Rattle.std.specs.List.{All, AllZip};
+ghost use Rattle.std.specs.List.{All};
 ghost use Rattle.env_index.specs.Words.{HasSpans};
 ghost use Rattle.answered_sets.specs.Judged.{JudgedValue};
 ghost use Rattle.mailbox.specs.Deliveries.{AreDelivered};
 ghost use Rattle.mailbox.specs.Rendered.{HaveRendered};
-ghost use Rattle.set_answers.specs.Asked.{IsFound, asked_of};
 ghost use Rattle.set_answers.specs.CheckedText.{HaveRoom, IsCheckedBehind};
+ghost use Rattle.set_answers.specs.FoundRows.{AreFoundRows};
 ghost use Rattle.night_report.specs.Told.{told_text};
 
 use crate::closing::{AllClosed, close_by, close_from};
@@ -18,9 +18,9 @@ use moment::At;
 use night_report::{LineWriters, ReportLines, Reported};
 use partner_setup::Setup;
 use set_answers::{
-    Acknowledgments, CheckedText, ReportWriters, answer_found, check_text, no_acknowledgments,
+    Acknowledgments, CheckedText, FoundRows, ReportWriters, answer_found, check_text,
+    no_acknowledgments,
 };
-use set_check::Finding;
 use std::alloc::Global;
 use std::marker::Model;
 use std::thread::Threads;
@@ -79,19 +79,19 @@ fn rendered_behind<W: Writers>(
     Ok(boxes)
 }
 
-/// The answers to a batch, after what was sent before: by what was found out about its places, or else checked here.
+/// The answers to a batch, after what was sent before: by what was `found` out about its interchanges and places, or else checked here.
 fn answered<'i, 'a, W: ReportWriters>(
     alloc: Global,
     writers: &W,
     setup: &'a Setup,
     at: &At,
     index: &'i Index<'a>,
-    found: Option<Vec<Finding<'a>>>,
+    found: Option<FoundRows<'a>>,
     sent: Vec<Acknowledgments>,
 ) -> Result<CheckedText<'i, 'a>, NoMemory>
     requires ready { W.can_report writers.now }
     requires spans { All (λ e. HasSpans index.now.text e.interchange) index.now.entries }
-    requires found { IfSome found (λ v. AllZip IsFound (asked_of index.now.text setup.now index.now.entries) v.items) }
+    requires found { IfSome found (AreFoundRows index.now.text setup.now index.now.entries) }
     requires sent { HaveRoom setup.now at.now (length index.now.entries) sent.items }
     ensures { IfOk result (λ c. IsCheckedBehind index.entry.now.text setup.entry.now at.now index.entry.now.entries
         c.interchanges.items sent.items c.acknowledgments.items) }
@@ -123,9 +123,9 @@ impl Model for Writing {
 
 impl Writing {
     ghost use Rattle.std.specs.Prelude.{◌≡◌, ◌+◌, ◌<◌, ◌^◌, IfOk, IfSome, length};
-    ghost use Rattle.std.specs.List.{All, AllZip};
+    ghost use Rattle.std.specs.List.{All};
     ghost use Rattle.env_index.specs.Words.{HasSpans};
-    ghost use Rattle.set_answers.specs.Asked.{IsFound, asked_of};
+    ghost use Rattle.set_answers.specs.FoundRows.{AreFoundRows};
     ghost use Rattle.night_batches.specs.Writing.{HasRoomFor, IsBatchWritten, IsClosedBy, nothing_written, with_outside};
 
     /// Writing in which nothing is written yet. The only error is out of memory.
@@ -164,13 +164,13 @@ impl Writing {
         at: &At,
         base: u64,
         index: &Index<'a>,
-        found: Option<Vec<Finding<'a>>>,
+        found: Option<FoundRows<'a>>,
     ) -> Result<Writing, NoMemory>
         requires ready { W.is_ready writers.now }
         requires reports { W.can_report writers.now }
         requires lines { W.can_tell writers.now }
         requires spans { All (λ e. HasSpans index.now.text e.interchange) index.now.entries }
-        requires found { IfSome found (λ v. AllZip IsFound (asked_of index.now.text setup.now index.now.entries) v.items) }
+        requires found { IfSome found (AreFoundRows index.now.text setup.now index.now.entries) }
         requires room { HasRoomFor setup.now at.now (length index.now.entries) index.now.outside self }
         ensures { IfOk result (IsBatchWritten index.now.text setup.now at.now base index.now.entries index.now.outside self) }
     {
@@ -200,8 +200,8 @@ impl Writing {
         })
     }
 
-    /// Adds a batch, by what was found out about its places, or else checked here. One without interchanges adds its bytes outside
-    /// alone.
+    /// Adds a batch, by what was `found` out about its interchanges and places, or else checked here. One without interchanges adds
+    /// its bytes outside alone.
     fn add_answered<'a, W: Writers + ReportWriters + LineWriters>(
         self,
         alloc: Global,
@@ -210,13 +210,13 @@ impl Writing {
         at: &At,
         base: u64,
         index: &Index<'a>,
-        found: Option<Vec<Finding<'a>>>,
+        found: Option<FoundRows<'a>>,
     ) -> Result<Writing, NoMemory>
         requires ready { W.is_ready writers.now }
         requires reports { W.can_report writers.now }
         requires lines { W.can_tell writers.now }
         requires spans { All (λ e. HasSpans index.now.text e.interchange) index.now.entries }
-        requires found { IfSome found (λ v. AllZip IsFound (asked_of index.now.text setup.now index.now.entries) v.items) }
+        requires found { IfSome found (AreFoundRows index.now.text setup.now index.now.entries) }
         requires room { HasRoomFor setup.now at.now (length index.now.entries) index.now.outside self }
         ensures { IfOk result (IsBatchWritten index.now.text setup.now at.now base index.now.entries index.now.outside self) }
     {
@@ -245,9 +245,9 @@ impl Writing {
         self.add_answered(alloc, &OneThread, setup, at, base, index, None)
     }
 
-    /// Writes a batch of which all was found out before: of each place of its index whether its number is used earlier, and of each
-    /// set how it was checked; these writers write the delivered sets and the 999s. The only error is out of memory; then what was
-    /// written before is dropped.
+    /// Writes a batch of which all was `found` out before: who sent each interchange, of each place of its index whether its number is
+    /// used earlier, and of each set how it was checked. These `writers` write the delivered sets and the 999s. The only error is out of
+    /// memory; then what was written before is dropped.
     pub fn add_found<'a, W: Writers + ReportWriters + LineWriters>(
         self,
         alloc: Global,
@@ -256,13 +256,13 @@ impl Writing {
         at: &At,
         base: u64,
         index: &Index<'a>,
-        found: Vec<Finding<'a>>,
+        found: FoundRows<'a>,
     ) -> Result<Writing, NoMemory>
         requires ready { W.is_ready writers.now }
         requires reports { W.can_report writers.now }
         requires lines { W.can_tell writers.now }
         requires spans { All (λ e. HasSpans index.now.text e.interchange) index.now.entries }
-        requires found { AllZip IsFound (asked_of index.now.text setup.now index.now.entries) found.items }
+        requires found { AreFoundRows index.now.text setup.now index.now.entries found }
         requires room { HasRoomFor setup.now at.now (length index.now.entries) index.now.outside self }
         ensures { IfOk result (IsBatchWritten index.now.text setup.now at.now base index.now.entries index.now.outside self) }
     {

@@ -1,11 +1,11 @@
 -- What workers found out of a batch is what is written of it.
 use Rattle.std.proofs.Common.{◌∙◌, ℕ, ◌+◌, ◌≤◌, List, length, sym, ap, subst}
-use Rattle.std.specs.List.{All, AllZip}
+use Rattle.std.specs.List.{All}
 use Rattle.hub_kinds.specs.declared.limits.TheConstants.{LONGEST_TEXT}
 use Rattle.env_index.specs.Words.{HasSpans, IndexEntry, IndexValue, with_faults}
 use Rattle.partner_setup.specs.Setup.{SetupValue}
 use Rattle.set_answers.proofs.ForAbove.{settled_spans}
-use Rattle.set_answers.specs.Asked.{IsFound, asked_of}
+use Rattle.set_answers.specs.FoundRows.{AreFoundRows}
 use Rattle.number_register.specs.SeenNumbers.{HaveSeen}
 use Rattle.set_answers.specs.Settled.{faults_with}
 use Rattle.number_register.specs.declared.seen.Seen.{Seen}
@@ -25,10 +25,10 @@ found_spans batch setup seen numbers found is known =
 -- all that is asked is found
 pub found_asked : (batch : List ℕ) (setup : SetupValue) (seen : Seen) (numbers : List (List ℕ)) (found : FoundAfter)
     → IsFoundAfter batch setup seen found → HaveSeen seen numbers
-    → AllZip IsFound (asked_of found.index.text setup found.index.entries) found.findings.items
+    → AreFoundRows found.index.text setup found.index.entries found.rows
 found_asked batch setup seen numbers found is known =
-    subst (λ (t : List ℕ). AllZip IsFound (asked_of t setup found.index.entries) found.findings.items)
-    (sym (ap (λ (i : IndexValue). i.text) (is.index numbers known) ∙ is.read.same)) is.found
+    subst (λ (t : List ℕ). AreFoundRows t setup found.index.entries found.rows)
+    (sym (ap (λ (i : IndexValue). i.text) (is.index numbers known) ∙ is.read.same)) is.rows
 
 -- there is room for it
 pub found_room : (setup : SetupValue) (at : List ℕ) (base : ℕ) (w : WritingValue) (batch : List ℕ) (seen : Seen)

@@ -62,7 +62,11 @@ fn add_without_workers<'a>(
     let Carried { numbers, writing } = carried;
     let mut index = index_plain(alloc, batch)?;
     let settled = settle_after(alloc, setup, numbers, &mut index)?;
-    let SettledFaults { faults, numbers } = settled;
+    let SettledFaults {
+        faults,
+        numbers,
+        ..
+    } = settled;
     index.settle(faults.as_slice());
     let writing = writing.add_batch(alloc, setup, at, base, &index)?;
     Ok(Carried { numbers, writing })
@@ -102,14 +106,14 @@ fn add_shared<'g: 'a, 'a, G: Gate + Sync, R: Threads + Wait + Clock + Sync>(
     )?;
     let FoundAfter {
         index,
-        findings,
+        rows,
         numbers,
     } = found;
     let writers = ManyThreads {
         rt: crew.rt,
         workers: crew.workers,
     };
-    let writing = writing.add_found(alloc, &writers, setup, at, base, &index, findings)?;
+    let writing = writing.add_found(alloc, &writers, setup, at, base, &index, rows)?;
     Ok(Carried { numbers, writing })
 }
 

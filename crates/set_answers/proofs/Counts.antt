@@ -1,16 +1,17 @@
 -- Acknowledgments that are counted before they are written.
 use Rattle.std.proofs.Common.{◌≡◌, ◌<◌, ◌≤◌, ℕ, ◌+◌, ◌==◌, Bool, true, false, cond, List, [], ◌∷◌, ◌++◌, Option, Some, None}
 use Rattle.std.proofs.Common.{◌^◌, length, map, refl, sym, ap, subst, ◌∙◌, arith, eq-eqb}
-use Rattle.std.specs.Prelude.{if◌then◌else◌, option_map, slice_get, slice_set, sum_by}
-use Rattle.std.proofs.lemmas.List.{length-append}
+use Rattle.std.specs.Prelude.{if◌then◌else◌, option_map, position, slice_get, slice_set, sum_by}
+use Rattle.std.proofs.lemmas.List.{length-append, length-map}
 use Rattle.std.proofs.lemmas.List.Elements.{filter-append}
 use Rattle.std.proofs.lemmas.List.Sums.{sum_by-append, length-filter, count_by-le-length}
-use Rattle.std.proofs.lemmas.Option.{slice_get-map, slice_get_within}
+use Rattle.std.proofs.lemmas.List.Quantifiers.{position-Some}
+use Rattle.std.proofs.lemmas.Option.{none-some, slice_get-map, slice_get_within}
 use Rattle.env_index.specs.Words.{IndexEntry}
 use Rattle.partner_setup.specs.Setup.{SetupValue, sender_of}
 use Rattle.set_answers.specs.CheckedText.{SentValues, is_partner}
-use Rattle.set_answers.specs.Counted.{AreCountedAfter, counted_after, entries_acknowledged_to, group_count_of_entry, recipient_of_entry}
-use Rattle.set_answers.specs.Counted.{will_report_of, with_count, without_text}
+use Rattle.set_answers.specs.Counted.{AreCountedAfter, CanCountEach, counted_after, entries_acknowledged_to, group_count_of_entry}
+use Rattle.set_answers.specs.Counted.{recipient_of_entry, will_report_of, with_count, without_text}
 use Rattle.set_answers.specs.SentAfter.{CanCount}
 use Rattle.set_answers.proofs.Putting.{put_each, put_length, there_is}
 
@@ -145,3 +146,21 @@ bare_room n files room q f there = by (slice_get files q) refl
           subst (λ (v : SentValues). v.count + n < 2 ^ 64) same had.0,
           subst (λ (v : SentValues). v.groups + n < 2 ^ 64) same had.1,
         )
+
+pub bare_each : (setup : SetupValue) (senders : List (Option ℕ)) (es : List IndexEntry) (files : List SentValues)
+    → CanCountEach setup senders es files → CanCountEach setup senders es (map without_text files)
+bare_each setup senders es files can = record {
+  from = can.from;
+  count = length-map files without_text ∙ can.count;
+  room = bare_room (length es) files can.room;
+  findings = can.findings;
+}
+
+position_within : {X : Type 0} (p : X → Bool) (xs : List X) (i : ℕ) → position p xs ≡ Some i → i < length xs
+position_within p [] i is = absurd (none-some i is)
+position_within p (x ∷ xs) i is = (position-Some p (x ∷ xs) i x is).0
+
+-- a sender is one of the partners
+pub sender_within : (setup : SetupValue) (header : List ℕ) (place : ℕ) → sender_of setup header ≡ Some place
+    → place < length setup.partners
+sender_within setup header place is = position_within _ setup.partners place is

@@ -1,5 +1,5 @@
 -- Both parts of a batch are answered as the whole is.
-use Rattle.std.proofs.Common.{◌≡◌, ◌≤◌, ℕ, zero, suc, ◌+◌, List, [], ◌∷◌, ◌++◌, Some, length, map}
+use Rattle.std.proofs.Common.{◌≡◌, ◌≤◌, ◌<◌, ◌^◌, ℕ, zero, suc, ◌+◌, List, [], ◌∷◌, ◌++◌, Option, Some, length, map}
 use Rattle.std.proofs.Common.{drop, take, sym, ap, subst, ◌∙◌, arith}
 use Rattle.std.specs.Prelude.{option_map, slice_get}
 use Rattle.std.specs.List.{All, AllZip}
@@ -13,13 +13,16 @@ use Rattle.answered_sets.specs.Judged.{JudgedValue}
 use Rattle.set_answers.specs.Asked.{Asked, IsFound, asked_of}
 use Rattle.set_answers.specs.CheckedText.{CheckedInterchange, IsCheckedAs, SentValues, acknowledged_to, groups_to, is_acknowledged_to}
 use Rattle.set_answers.specs.CheckedText.{HaveRoom, judged}
-use Rattle.set_answers.specs.Counted.{AreContinued, AreCountedAfter, asked_count_of}
+use Rattle.set_answers.specs.Counted.{AreContinued, AreCountedAfter, CanCountEach, asked_count_of}
 use Rattle.set_answers.specs.Counted.{without_text}
+use Rattle.set_answers.specs.FoundRows.{AreFoundRows}
 use Rattle.set_answers.specs.Halves.{AreHalves, IsPartAnswered}
 use Rattle.set_answers.specs.Pairs.{AreAllPairs}
-use Rattle.set_answers.specs.SentAfter.{AreAnsweredAfter, AreSentAfter, CanAnswer, sent_after}
+use Rattle.set_answers.specs.SentAfter.{AreAnsweredAfter, AreSentAfter, CanAnswer, CanCount, sent_after}
+use Rattle.set_answers.specs.Settled.{senders_of}
 use Rattle.set_check.specs.declared.finding.Finding.{Finding}
 use Rattle.set_answers.specs.declared.halving.Part.{Part}
+use Rattle.set_answers.specs.declared.rows.FoundRows.{FoundRows}
 use Rattle.set_answers.proofs.Acknowledging.{sent_twice}
 use Rattle.set_answers.proofs.Asking.{asked_append, asked_count}
 use Rattle.set_answers.proofs.Counts.{bare_room, room_counted}
@@ -107,10 +110,11 @@ spans_append P (e ∷ es) fs all =
     (All-cons P e es (All-head P e (es ++ fs) all) rest.0, rest.1)
 
 -- what can be answered can be answered by halves
-module _ (text : List ℕ) (setup : SetupValue) (low high all : List IndexEntry) (found front back : List Finding)
-    (old starts : List SentValues) (n : ℕ) (whole : low ++ high ≡ all) (ready : CanAnswer text setup all found old) where
-  of_both : CanAnswer text setup (low ++ high) found old
-  of_both = subst (λ (es : List IndexEntry). CanAnswer text setup es found old) (sym whole) ready
+module _ (text : List ℕ) (setup : SetupValue) (low high all : List IndexEntry) (senders : List (Option ℕ))
+    (found front back : List Finding) (old starts : List SentValues) (n : ℕ) (whole : low ++ high ≡ all)
+    (ready : CanAnswer text setup all senders found old) where
+  of_both : CanAnswer text setup (low ++ high) senders found old
+  of_both = subst (λ (es : List IndexEntry). CanAnswer text setup es senders found old) (sym whole) ready
 
   asked_both : AllZip IsFound (asked_of text setup low ++ asked_of text setup high) found
   asked_both = subst (λ (l : List Asked). AllZip IsFound l found) (asked_append text setup low high) of_both.found
@@ -126,23 +130,33 @@ module _ (text : List ℕ) (setup : SetupValue) (low high all : List IndexEntry)
         asked_count text setup low,
       )
 
-  pub first_ready : n ≡ asked_count_of setup low → front ≡ take n found → CanAnswer text setup low front old
-  first_ready counted is = record {
+  room_low : CanCount (length low) old
+  room_low q f there =
+      let had = of_both.room q f there in
+      let size = length-append low high in
+      (omega (arith, had.0, size), omega (arith, had.1, size))
+
+  pub count_first : (lows : List (Option ℕ)) → lows ≡ senders_of setup low → asked_count_of setup low < 2 ^ 64
+      → CanCountEach setup lows low old
+  count_first lows are asked = record { from = are; count = of_both.count; room = room_low; findings = asked }
+
+  pub first_ready : (lows : List (Option ℕ)) → lows ≡ senders_of setup low → n ≡ asked_count_of setup low → front ≡ take n found
+      → CanAnswer text setup low lows front old
+  first_ready lows are counted is = record {
     spans = (spans_append (λ e. HasSpans text e.interchange) low high of_both.spans).0;
+    from = are;
     found = subst (λ (l : List Finding). AllZip IsFound (asked_of text setup low) l)
         (sym (is ∙ ap (λ (k : ℕ). take k found) (counted ∙ sym (asked_count text setup low))))
         (zip_front IsFound (asked_of text setup low) (asked_of text setup high) found asked_both);
     count = of_both.count;
-    room = λ q f there.
-        let had = of_both.room q f there in
-        let size = length-append low high in
-        (omega (arith, had.0, size), omega (arith, had.1, size));
+    room = room_low;
   }
 
-  pub second_ready : n ≡ asked_count_of setup low → back ≡ drop n found
-      → AreCountedAfter setup low (map without_text old) starts → CanAnswer text setup high back starts
-  second_ready counted is after = record {
+  pub second_ready : (highs : List (Option ℕ)) → highs ≡ senders_of setup high → n ≡ asked_count_of setup low → back ≡ drop n found
+      → AreCountedAfter setup low (map without_text old) starts → CanAnswer text setup high highs back starts
+  second_ready highs are counted is after = record {
     spans = (spans_append (λ e. HasSpans text e.interchange) low high of_both.spans).1;
+    from = are;
     found = subst (λ (l : List Finding). AllZip IsFound (asked_of text setup high) l)
         (sym (is ∙ ap (λ (k : ℕ). drop k found) (counted ∙ sym (asked_count text setup low))))
         (zip_back IsFound (asked_of text setup low) (asked_of text setup high) found asked_both);
@@ -153,14 +167,16 @@ module _ (text : List ℕ) (setup : SetupValue) (low high all : List IndexEntry)
   }
 
 -- what is asked of a batch that is answered is what is asked of its whole as a part
-pub can_answer : (text words : List ℕ) (setup : SetupValue) (at : List ℕ) (es fs : List IndexEntry) (found : List Finding)
-    (files : List SentValues) → words ≡ text → fs ≡ es → All (λ e. HasSpans text e.interchange) es
-    → AllZip IsFound (asked_of text setup es) found → HaveRoom setup at (length es) files → CanAnswer words setup fs found files
-can_answer text words setup at es fs found files same_text same_entries spans are room =
-    subst (λ (t : List ℕ). CanAnswer t setup fs found files) (sym same_text)
-    (subst (λ (l : List IndexEntry). CanAnswer text setup l found files) (sym same_entries) (record {
+pub can_answer : (text words : List ℕ) (setup : SetupValue) (at : List ℕ) (es fs : List IndexEntry) (rows : FoundRows)
+    (senders : List (Option ℕ)) (files : List SentValues) → words ≡ text → fs ≡ es → senders ≡ rows.senders.items
+    → All (λ e. HasSpans text e.interchange) es → AreFoundRows text setup es rows → HaveRoom setup at (length es) files
+    → CanAnswer words setup fs senders rows.findings.items files
+can_answer text words setup at es fs rows senders files same_text same_entries same_senders spans are room =
+    subst (λ (t : List ℕ). CanAnswer t setup fs senders rows.findings.items files) (sym same_text)
+    (subst (λ (l : List IndexEntry). CanAnswer text setup l senders rows.findings.items files) (sym same_entries) (record {
       spans = spans;
-      found = are;
+      from = same_senders ∙ are.senders;
+      found = are.findings;
       count = room.1.count;
       room = can_count setup at (length es) files room;
     }))

@@ -1,7 +1,7 @@
 -- What is known of interchanges before they are answered (own): to whom each will be acknowledged, with how many groups, and how much
 -- is asked of it beforehand. Private.
-use Rattle.std.specs.Prelude.{◌≡◌, ℕ, ◌+◌, Bool, true, false, not, ◌||◌, List, [], ◌∷◌, ◌++◌, filter, length, sum_by, Option, Some, None}
-use Rattle.std.specs.Prelude.{is_some, slice_get, if◌then◌else◌}
+use Rattle.std.specs.Prelude.{◌≡◌, ◌<◌, ◌^◌, ℕ, ◌+◌, Bool, true, false, not, ◌||◌, List, [], ◌∷◌, ◌++◌, filter, length, sum_by, Option}
+use Rattle.std.specs.Prelude.{Some, None, is_some, slice_get, if◌then◌else◌}
 use Rattle.std.specs.List.{list_any}
 use Rattle.hub_kinds.specs.declared.interchange.InterchangeFault.{InterchangeFault}
 use Rattle.env_index.specs.Words.{IndexEntry, GroupEntry}
@@ -10,6 +10,8 @@ use Rattle.answered_sets.specs.Answered.{ta1_note}
 use Rattle.answered_sets.specs.Judged.{is_fa}
 use Rattle.set_answers.specs.Asked.{has_places}
 use Rattle.set_answers.specs.CheckedText.{SentValues, is_partner}
+use Rattle.set_answers.specs.SentAfter.{CanCount}
+use Rattle.set_answers.specs.Settled.{senders_of}
 
 -- 999s will answer these groups: the sender is known, the interchange isn't refused, and one of the groups isn't FA
 abbrev pub will_report : (sender : Option ℕ) → Option InterchangeFault → List GroupEntry → Bool
@@ -81,3 +83,10 @@ asked_count_from sender e = asked_count_by (has_places e.fault) sender e.interch
 abbrev pub asked_count_of : SetupValue → List IndexEntry → ℕ
 asked_count_of setup [] = 0
 asked_count_of setup (e ∷ es) = asked_count_from (sender_of setup e.interchange.header) e + asked_count_of setup es
+
+-- what interchanges from these senders will get can be counted after these, and how much is asked of them
+pub record CanCountEach (setup : SetupValue) (senders : List (Option ℕ)) (es : List IndexEntry) (old : List SentValues) : Type 0 where
+  pub from : senders ≡ senders_of setup es
+  pub count : length old ≡ length setup.partners
+  pub room : CanCount (length es) old
+  pub findings : asked_count_of setup es < 2 ^ 64

@@ -6,6 +6,11 @@ use Rattle.set_answers.specs.Counted.{AreCountedAfter, without_text}
 use Rattle.set_answers.specs.SentAfter.{AreAnsweredAfter, CanAnswer}
 use Rattle.set_answers.specs.declared.halving.Part.{Part}
 
+-- a part can be answered
+abbrev pub IsReady : Part → Type 0
+IsReady part =
+    CanAnswer part.batch.now.text.now part.batch.now.setup.now part.entries.now part.senders.now part.found.items part.sent.items
+
 -- a part of a batch is cut in two; the second half begins with the numbers that come after the first
 pub record AreHalves (part first second : Part) : Type 0 where
   pub first_batch : first.batch ≡ part.batch
@@ -13,8 +18,8 @@ pub record AreHalves (part first second : Part) : Type 0 where
   pub whole : first.entries.now ++ second.entries.now ≡ part.entries.now
   pub sent : first.sent.items ≡ part.sent.items
   pub start : AreCountedAfter part.batch.now.setup.now first.entries.now (map without_text part.sent.items) second.sent.items
-  pub first_ready : CanAnswer part.batch.now.text.now part.batch.now.setup.now first.entries.now first.found.items first.sent.items
-  pub second_ready : CanAnswer part.batch.now.text.now part.batch.now.setup.now second.entries.now second.found.items second.sent.items
+  pub first_ready : IsReady first
+  pub second_ready : IsReady second
 
 abbrev pub IsPartAnswered : Part → List JudgedValue → List SentValues → Type 0
 IsPartAnswered part judgements new =

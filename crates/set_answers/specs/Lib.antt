@@ -6,6 +6,7 @@ pub mod CheckedText
 pub mod Counted
 pub mod Ends
 pub mod FirstUse
+pub mod FoundRows
 pub mod Halves
 pub mod Headers
 pub mod Known

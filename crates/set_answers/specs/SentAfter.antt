@@ -1,5 +1,5 @@
 -- More interchanges are acknowledged after what partners were sent before (own). Private.
-use Rattle.std.specs.Prelude.{◌≡◌, ℕ, ◌+◌, ◌^◌, ◌<◌, List, [], ◌∷◌, ◌++◌, map, length, Some, slice_get}
+use Rattle.std.specs.Prelude.{◌≡◌, ℕ, ◌+◌, ◌^◌, ◌<◌, List, [], ◌∷◌, ◌++◌, map, length, Option, Some, slice_get}
 use Rattle.std.specs.List.{All, AllZip}
 use Rattle.env_index.specs.Words.{IndexEntry, HasSpans}
 use Rattle.partner_setup.specs.declared.partner.Partner.{Partner}
@@ -8,6 +8,7 @@ use Rattle.answered_sets.specs.Judged.{JudgedValue}
 use Rattle.set_answers.specs.Asked.{IsFound, asked_of}
 use Rattle.set_answers.specs.CheckedText.{CheckedInterchange, AreCheckedAs, IsCheckedAs, SentValues, acknowledged_to}
 use Rattle.set_answers.specs.CheckedText.{acknowledgments_from, groups_to, judged}
+use Rattle.set_answers.specs.Settled.{senders_of}
 use Rattle.set_check.specs.declared.finding.Finding.{Finding}
 
 -- a partner's acknowledgments, with those of these interchanges after them
@@ -46,10 +47,11 @@ pub record AreAnsweredAfter (text : List ℕ) (setup : SetupValue) (at : List �
   pub judged : judgements ≡ map (judged text) answered
   pub sent : AreSentAfter setup at answered old new
 
--- interchanges can be answered by what was found out about them, after these acknowledgments
-pub record CanAnswer (text : List ℕ) (setup : SetupValue) (entries : List IndexEntry) (findings : List Finding)
-    (files : List SentValues) : Type 0 where
+-- interchanges can be answered by their senders and by what was found out at their places, after these acknowledgments
+pub record CanAnswer (text : List ℕ) (setup : SetupValue) (entries : List IndexEntry) (senders : List (Option ℕ))
+    (findings : List Finding) (files : List SentValues) : Type 0 where
   pub spans : All (λ e. HasSpans text e.interchange) entries
+  pub from : senders ≡ senders_of setup entries
   pub found : AllZip IsFound (asked_of text setup entries) findings
   pub count : length files ≡ length setup.partners
   pub room : CanCount (length entries) files

@@ -17,6 +17,14 @@ fault_with_sender None (Some sender) = None
 abbrev pub fault_alone : SetupValue → IndexEntry → Option InterchangeFault
 fault_alone setup e = fault_with_sender e.fault (sender_of setup e.interchange.header)
 
+-- the sender of each, as its place in the setup
+abbrev pub senders_of : SetupValue → List IndexEntry → List (Option ℕ)
+senders_of setup es = map (λ e. sender_of setup e.interchange.header) es
+
+-- the least of the faults 1 to 8 of each
+abbrev pub faults_alone : SetupValue → List IndexEntry → List (Option InterchangeFault)
+faults_alone setup es = map (fault_alone setup) es
+
 -- the numbers of those that have none of the faults 1 to 8
 abbrev pub kept_keys : SetupValue → List IndexEntry → List (List ℕ)
 kept_keys setup es = map interchange_key_of (filter (λ e. is_none (fault_alone setup e)) es)

@@ -3,15 +3,14 @@ ghost use Rattle.std.specs.List.{list_any};
 ghost use Rattle.answered_sets.specs.Judged.{is_fa};
 ghost use Rattle.env_index.specs.Words.{IndexEntry};
 ghost use Rattle.partner_setup.specs.Setup.{SetupValue, sender_of};
-ghost use Rattle.set_answers.specs.Counted.{AreCountedAfter, asked_count_from, asked_count_of, asked_in_groups, recipient_from};
-ghost use Rattle.set_answers.specs.Counted.{recipient_of_entry, will_report_of, without_text};
+ghost use Rattle.set_answers.specs.Counted.{AreCountedAfter, CanCountEach, asked_count_from, asked_count_of, asked_in_groups};
+ghost use Rattle.set_answers.specs.Counted.{recipient_from, recipient_of_entry, will_report_of, without_text};
 ghost use Rattle.set_answers.specs.SentAfter.{CanCount};
 
 use crate::files::Acknowledgments;
 use answered_sets::{is_fa, ta1_note};
 use env_index::{IndexedInterchange, Interchange};
 use hub_kinds::{InterchangeFault, NoMemory};
-use partner_setup::Setup;
 use std::alloc::Global;
 
 /// From where a part of a batch is answered.
@@ -95,35 +94,40 @@ fn count_for(sent: &mut [Acknowledgments], recipient: Option<usize>, reports: bo
     }
 }
 
-/// Counts the acknowledgment that an interchange will get, and answers how many findings are those of the interchange.
-fn count_one(setup: &Setup, sent: &mut [Acknowledgments], entry: &IndexedInterchange<'_>) -> usize
-    requires count { length sent.old ≡ length setup.now.partners }
+/// Counts the acknowledgment that an interchange from `sender` will get, and answers how many findings are those of the interchange.
+fn count_one(
+    sent: &mut [Acknowledgments],
+    sender: Option<usize>,
+    entry: &IndexedInterchange<'_>,
+) -> usize
+    requires within { (place : ℕ) → sender ≡ Some place → place < length sent.old }
     requires room { CanCount 1 sent.old }
-    requires findings { asked_count_from (sender_of setup.now entry.now.interchange.header) entry.now < 2 ^ 64 }
-    ensures sent { AreCountedAfter setup.now (entry.now ∷ []) sent.old sent.new }
-    ensures findings { result ≡ asked_count_from (sender_of setup.now entry.now.interchange.header) entry.now }
+    requires findings { asked_count_from sender entry.now < 2 ^ 64 }
+    ensures sent { (setup : SetupValue) → sender ≡ sender_of setup entry.now.interchange.header
+        → AreCountedAfter setup (entry.now ∷ []) sent.old sent.new }
+    ensures findings { result ≡ asked_count_from sender entry.now }
 {
-    let sender = setup.sender_of(entry.interchange().header());
     let reports = will_report(sender, entry);
     count_for(sent, recipient_from(sender, entry, reports), reports);
     findings_of(sender, entry)
 }
 
-/// Counts the acknowledgments that interchanges will get, and answers how many findings are those of the interchanges.
+/// Counts the acknowledgments that interchanges from these `senders` will get, and answers how many findings are those of the interchanges.
 fn count_each(
-    setup: &Setup,
     sent: &mut [Acknowledgments],
+    senders: &[Option<usize>],
     entries: &[IndexedInterchange<'_>],
 ) -> usize
-    requires count { length sent.old ≡ length setup.now.partners }
-    requires room { CanCount (length entries.now) sent.old }
-    requires findings { asked_count_of setup.now entries.now < 2 ^ 64 }
-    ensures sent { AreCountedAfter setup.now entries.now sent.old sent.new }
-    ensures findings { result ≡ asked_count_of setup.now entries.now }
+    requires { (setup : SetupValue) × CanCountEach setup senders.now entries.now sent.old }
+    ensures sent { (setup : SetupValue) → CanCountEach setup senders.now entries.now sent.old
+        → AreCountedAfter setup entries.now sent.old sent.new }
+    ensures findings { (setup : SetupValue) → CanCountEach setup senders.now entries.now sent.old
+        → result ≡ asked_count_of setup entries.now }
 {
     let mut findings = 0;
     for i in 0..entries.len() {
-        findings += count_one(setup, sent, &entries[i]);
+        let sender = senders[i];
+        findings += count_one(sent, sender, &entries[i]);
     }
     findings
 }
@@ -139,21 +143,21 @@ fn numbers_of(alloc: Global, sent: &[Acknowledgments]) -> Result<Vec<Acknowledgm
     Ok(numbers)
 }
 
-/// From where the interchanges after `entries` are answered, if these were sent before `entries`.
+/// From where the interchanges after `entries` are answered, if these were sent before `entries`, which are from these `senders`.
 pub(crate) fn start_after(
     alloc: Global,
-    setup: &Setup,
     sent: &[Acknowledgments],
+    senders: &[Option<usize>],
     entries: &[IndexedInterchange<'_>],
 ) -> Result<Start, NoMemory>
-    requires count { length sent.now ≡ length setup.now.partners }
-    requires room { CanCount (length entries.now) sent.now }
-    requires findings { asked_count_of setup.now entries.now < 2 ^ 64 }
-    ensures sent { IfOk result (λ start. AreCountedAfter setup.now entries.now (map without_text sent.now) start.sent.items) }
-    ensures findings { IfOk result (λ start. start.findings ≡ asked_count_of setup.now entries.now) }
+    requires { (setup : SetupValue) × CanCountEach setup senders.now entries.now sent.now }
+    ensures sent { IfOk result (λ start. (setup : SetupValue) → CanCountEach setup senders.now entries.now sent.now
+        → AreCountedAfter setup entries.now (map without_text sent.now) start.sent.items) }
+    ensures findings { IfOk result (λ start. (setup : SetupValue) → CanCountEach setup senders.now entries.now sent.now
+        → start.findings ≡ asked_count_of setup entries.now) }
 {
     let mut numbers = numbers_of(alloc, sent)?;
-    let findings = count_each(setup, numbers.as_mut_slice(), entries);
+    let findings = count_each(numbers.as_mut_slice(), senders, entries);
     Ok(Start {
         sent: numbers,
         findings,

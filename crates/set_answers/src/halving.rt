@@ -2,8 +2,7 @@ ghost use Rattle.std.specs.Prelude.{◌≡◌, ◌<◌, ◌≤◌, ◌++◌, Som
 ghost use Rattle.std.specs.Thread.{IsSync};
 ghost use Rattle.set_answers.specs.CheckedText.{SentValues};
 ghost use Rattle.set_answers.specs.Counted.{AreContinued, continued_by};
-ghost use Rattle.set_answers.specs.Halves.{AreHalves, IsPartAnswered};
-ghost use Rattle.set_answers.specs.SentAfter.{CanAnswer};
+ghost use Rattle.set_answers.specs.Halves.{AreHalves, IsPartAnswered, IsReady};
 
 use crate::batch::Batch;
 use crate::counting::start_after;
@@ -72,11 +71,12 @@ fn both<'i, 'a>(
     })
 }
 
-/// Interchanges of a batch, what was found out about them, and what partners were sent before them.
+/// Interchanges of a batch, their senders, what was found out at their places, and what partners were sent before them.
 #[derive(Drop)]
 pub(crate) struct Part<'i, 'b, 'a> {
     pub(crate) batch: &'b Batch<'b, 'a>,
     pub(crate) entries: &'i [IndexedInterchange<'a>],
+    pub(crate) senders: &'b [Option<usize>],
     pub(crate) found: Vec<Finding<'a>>,
     pub(crate) sent: Vec<Acknowledgments>,
 }
@@ -86,28 +86,32 @@ fn halves_of<'i, 'b, 'a>(
     alloc: Global,
     part: Part<'i, 'b, 'a>,
 ) -> Result<(Part<'i, 'b, 'a>, Part<'i, 'b, 'a>), NoMemory>
-    requires { CanAnswer part.batch.now.text.now part.batch.now.setup.now part.entries.now part.found.items part.sent.items }
+    requires { IsReady part }
     ensures { IfOk result (λ halves. AreHalves part.entry halves.0 halves.1) }
 {
     let Part {
         batch,
         entries,
+        senders,
         found,
         sent,
     } = part;
     let (low, high) = entries.split_at(entries.len() / 2);
-    let start = start_after(alloc, batch.setup, sent.as_slice(), low)?;
+    let (low_senders, high_senders) = senders.split_at(entries.len() / 2);
+    let start = start_after(alloc, sent.as_slice(), low_senders, low)?;
     let mut found = found;
     let rest = found.split_off(start.findings)?;
     let first = Part {
         batch,
         entries: low,
+        senders: low_senders,
         found,
         sent,
     };
     let second = Part {
         batch,
         entries: high,
+        senders: high_senders,
         found: rest,
         sent: start.sent,
     };
@@ -119,14 +123,21 @@ fn answer_part<'i, 'a>(
     alloc: Global,
     part: Part<'i, '_, 'a>,
 ) -> Result<CheckedText<'i, 'a>, NoMemory>
-    requires { CanAnswer part.batch.now.text.now part.batch.now.setup.now part.entries.now part.found.items part.sent.items }
+    requires { IsReady part }
     ensures { IfOk result (λ c. IsPartAnswered part.entry c.interchanges.items c.acknowledgments.items) }
 {
     let by = ReportedBy {
         alloc,
         writers: &OneThread,
     };
-    answer_entries(&by, part.batch, part.entries, part.found, part.sent)
+    answer_entries(
+        &by,
+        part.batch,
+        part.entries,
+        part.senders,
+        part.found,
+        part.sent,
+    )
 }
 
 /// Answers the interchanges of a part. At most `threads` threads answer them, half of the interchanges each.
@@ -137,7 +148,7 @@ pub(crate) fn answer_by<'i, 'b, 'a: 'i, R: Threads + Sync>(
     part: Part<'i, 'b, 'a>,
     threads: u64,
 ) -> Result<CheckedText<'i, 'a>, NoMemory>
-    requires { CanAnswer part.batch.now.text.now part.batch.now.setup.now part.entries.now part.found.items part.sent.items }
+    requires { IsReady part }
     ensures { IfOk result (λ c. IsPartAnswered part.entry c.interchanges.items c.acknowledgments.items) }
 {
     if threads < 2 || part.entries.len() < FEWEST {
@@ -146,12 +157,12 @@ pub(crate) fn answer_by<'i, 'b, 'a: 'i, R: Threads + Sync>(
     let (low, high) = halves_of(alloc, part)?;
     let front = move || -> Result<CheckedText<'_, '_>, NoMemory>
         requires { IsSync R.row × (2 ≤ threads)
-            × CanAnswer low.batch.now.text.now low.batch.now.setup.now low.entries.now low.found.items low.sent.items }
+            × IsReady low }
         ensures { IfOk result (λ c. IsPartAnswered low.entry c.interchanges.items c.acknowledgments.items) }
     { answer_by(rt, alloc, low, threads / 2) };
     let back = move || -> Result<CheckedText<'_, '_>, NoMemory>
         requires { IsSync R.row × (2 ≤ threads)
-            × CanAnswer high.batch.now.text.now high.batch.now.setup.now high.entries.now high.found.items high.sent.items }
+            × IsReady high }
         ensures { IfOk result (λ c. IsPartAnswered high.entry c.interchanges.items c.acknowledgments.items) }
     { answer_by(rt, alloc, high, threads - threads / 2) };
     let (first, second) = join(rt, front, back);

@@ -3,12 +3,13 @@
 //!
 //! Proved:
 //! - `settled_faults` gives each interchange of an index its least fault of 1 to 9: 8 where no partner of the setup is its
-//!   sender, 9 where an earlier interchange without faults 1 to 8 has the same number; `faults_behind` does so where interchanges
-//!   come before the index, by their numbers alone, and gives the numbers that those after it continue from;
+//!   sender, 9 where an earlier interchange without faults 1 to 8 has the same number. `faults_alone` gives the senders and the faults 1
+//!   to 8, and `faults_behind` gives by these the faults 1 to 9 where interchanges come before the index, by their numbers alone;
 //! - `check_text` checks each set of the interchanges without a fault by its sender's guide, and answers each group and set: the
 //!   standings that it leaves, and the acknowledgments of each partner, byte for byte, are those of these answers, after the
 //!   acknowledgments that stood before;
-//! - `answer_found` gives the same answers by what was found out about each place of the index before; `check_text` finds it out first;
+//! - `answer_found` gives the same answers by the senders and by what was found out at each place of the index before; `check_text` finds
+//!   both out first;
 //! - `answers_to` answers the groups of one interchange, and `judge` gives it the standings that these answers leave;
 //! - the acknowledgment of an interchange has a TA1 where it is answered with one, and a 999 for each group but those of acknowledgments;
 //!   it takes its partner's next interchange number, and its group, where it has 999s, the next group number.
@@ -38,6 +39,7 @@ mod halving;
 mod headers;
 mod numbers;
 mod reports;
+mod rows;
 mod seen;
 mod sending;
 mod sent;
@@ -50,7 +52,8 @@ mod writers;
 
 pub use answered::AnsweredGroup;
 pub use files::Acknowledgments;
-pub use settled::{fault_alone, faults_behind, settled_faults};
+pub use rows::FoundRows;
+pub use settled::{FaultsAlone, faults_alone, faults_behind, settled_faults};
 pub use spot::answers_to;
 pub use walk::{CheckedText, answer_found, check_text, judge, no_acknowledgments};
 pub use writers::ReportWriters;

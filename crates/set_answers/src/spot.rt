@@ -1,5 +1,5 @@
 ghost use Rattle.std.specs.Prelude.{◌≡◌, ◌≤◌, ◌∷◌, [], List, length, option_map, IfOk, OnOk};
-ghost use Rattle.std.specs.List.{All, AllZip};
+ghost use Rattle.std.specs.List.{All};
 ghost use Rattle.hub_kinds.specs.declared.limits.TheConstants.{LONGEST_TEXT};
 ghost use Rattle.x12_segs.specs.Words.{IsSetSpan, SegValue, element_of};
 ghost use Rattle.set_check.specs.Codes.{control_of};
@@ -8,14 +8,16 @@ ghost use Rattle.env_index.specs.declared.entry.SetEnvelope.{SetEnvelope};
 ghost use Rattle.partner_setup.specs.Setup.{guide_for_set};
 ghost use Rattle.set_answers.specs.AlsoFound.{AreAlsoFound};
 ghost use Rattle.set_answers.specs.Answers.{controls_of, has_number_among};
-ghost use Rattle.set_answers.specs.Asked.{IsFound, asked_of, entry_asked_by, group_asked, groups_asked, has_places, set_asked, sets_asked};
+ghost use Rattle.set_answers.specs.Asked.{IsFound, entry_asked_by, group_asked, groups_asked, has_places, set_asked, sets_asked};
 ghost use Rattle.set_answers.specs.CheckedText.{AreAnswersBy};
+ghost use Rattle.set_answers.specs.FoundRows.{AreFoundRows};
 ghost use Rattle.set_answers.specs.Seen.{is_among};
 
 use crate::answered::AnsweredGroup;
 use crate::finding::Findings;
 use crate::found::next_answers;
 use crate::numbers::{add_number, group_number};
+use crate::rows::FoundRows;
 use crate::seen::Seen;
 use crate::sent::Sent;
 use env_index::{
@@ -48,23 +50,25 @@ pub fn answers_to<'a>(
     next_answers(alloc, setup, text, sender, entry, &mut findings)
 }
 
-/// Finds out all that is asked of the interchanges of `entries` before they are answered.
+/// Finds out who sent each interchange of `entries`, and all that is asked of them before they are answered.
 pub(crate) fn find_each<'a>(
     alloc: Global,
     setup: &'a Setup,
     text: &'a [u8],
     entries: &[IndexedInterchange<'a>],
-) -> Result<Vec<Finding<'a>>, NoMemory>
+) -> Result<FoundRows<'a>, NoMemory>
     requires { All (λ e. HasSpans text.now e.interchange) entries.now }
-    ensures { IfOk result (λ v. AllZip IsFound (asked_of text.entry.now setup.entry.now entries.now) v.items) }
+    ensures { IfOk result (AreFoundRows text.entry.now setup.entry.now entries.now) }
 {
-    let mut found = Vec::new(alloc);
+    let mut senders = Vec::new(alloc);
+    let mut findings = Vec::new(alloc);
     for i in 0..entries.len() {
         let entry = &entries[i];
         let sender = setup.sender_of(entry.interchange().header());
-        find_interchange(alloc, setup, text, sender, entry, &mut found)?;
+        senders.push(sender)?;
+        find_interchange(alloc, setup, text, sender, entry, &mut findings)?;
     }
-    Ok(found)
+    Ok(FoundRows { senders, findings })
 }
 
 /// Adds to `found` what is asked of an interchange from `sender`, of its groups and of their sets: nothing if it has a fault of 1 to 8.

@@ -3,9 +3,12 @@ ghost use Rattle.std.specs.List.{All, AllZip};
 ghost use Rattle.env_index.specs.Words.{HasSpans};
 ghost use Rattle.set_answers.specs.CheckedText.{CheckedInterchange, AreAcknowledgments, HaveRoom, IsCheckedBehind};
 ghost use Rattle.set_answers.specs.CheckedText.{judged, nothing_sent};
+ghost use Rattle.partner_setup.specs.Setup.{sender_of};
 ghost use Rattle.set_answers.specs.Asked.{Asked, IsFound, asked_of, entry_asked};
+ghost use Rattle.set_answers.specs.FoundRows.{AreFoundRows};
 ghost use Rattle.set_answers.specs.Headers.{AreHeadersTo};
 ghost use Rattle.set_answers.specs.SentAfter.{AreAnsweredAfter, CanCount, IsNextAnswered};
+ghost use Rattle.set_answers.specs.Settled.{senders_of};
 
 use crate::acknowledgment::Acknowledgment;
 use crate::answered::AnsweredGroup;
@@ -15,6 +18,7 @@ use crate::finding::Findings;
 use crate::found::next_answers;
 use crate::headers::no_headers;
 use crate::reports::{GroupReporters, ReportedBy};
+use crate::rows::FoundRows;
 use crate::sending::acknowledge;
 use crate::spot::find_each;
 use crate::standings::standings_of;
@@ -54,17 +58,19 @@ pub fn judge<'i, 'a>(
     Ok(JudgedInterchange::new(text, entry.interchange(), sender, entry.fault(), standings))
 }
 
-/// Answers the next interchange by what was found out about it, and adds its acknowledgment to its sender's.
+/// Answers the next interchange, which `sender` sent, by what was found out about it, and adds its acknowledgment to its sender's.
 fn answer_interchange<'i, 'a, W: GroupReporters>(
     by: &ReportedBy<'_, W>,
     findings: &mut Findings<'a>,
     batch: &Batch<'_, 'a>,
+    sender: Option<usize>,
     entry: &'i IndexedInterchange<'a>,
     files: &mut [Acknowledgments],
     headers: &mut [Option<OutboundHeader>],
 ) -> Result<JudgedInterchange<'i, 'a>, NoMemory>
     requires ready { W.can_report by.now.writers.now }
     requires spans { HasSpans batch.now.text.now entry.now.interchange }
+    requires sender { sender ≡ sender_of batch.now.setup.now entry.now.interchange.header }
     requires found { (more : List Asked)
         × AllZip IsFound (entry_asked batch.now.text.now batch.now.setup.now entry.now ++ more) findings.old }
     requires count { length files.old ≡ length batch.now.setup.now.partners }
@@ -79,7 +85,6 @@ fn answer_interchange<'i, 'a, W: GroupReporters>(
 {
     let Batch { setup, at, text } = *batch;
     let interchange = entry.interchange();
-    let sender = setup.sender_of(interchange.header());
     let groups = next_answers(by.alloc, setup, text, sender, entry, findings)?;
     let note = ta1_note(sender, entry.fault(), interchange);
     let acknowledgment = Acknowledgment::new(interchange.header(), note, groups.as_slice());
@@ -99,17 +104,19 @@ pub fn no_acknowledgments(alloc: Global, setup: &Setup) -> Result<Vec<Acknowledg
     Ok(files)
 }
 
-/// Answers interchanges by what was found out about them, in their order.
+/// Answers interchanges from these `senders` by what was found out about them, in their order.
 fn answer_each<'i, 'a, W: GroupReporters>(
     by: &ReportedBy<'_, W>,
     findings: &mut Findings<'a>,
     batch: &Batch<'_, 'a>,
+    senders: &[Option<usize>],
     entries: &'i [IndexedInterchange<'a>],
     files: &mut [Acknowledgments],
     headers: &mut [Option<OutboundHeader>],
 ) -> Result<Vec<JudgedInterchange<'i, 'a>>, NoMemory>
     requires ready { W.can_report by.now.writers.now }
     requires spans { All (λ e. HasSpans batch.now.text.now e.interchange) entries.now }
+    requires senders { senders.now ≡ senders_of batch.now.setup.now entries.now }
     requires found { AllZip IsFound (asked_of batch.now.text.now batch.now.setup.now entries.now) findings.old }
     requires count { length files.old ≡ length batch.now.setup.now.partners }
     requires room { CanCount (length entries.now) files.old }
@@ -119,22 +126,25 @@ fn answer_each<'i, 'a, W: GroupReporters>(
 {
     let mut interchanges = Vec::new(by.alloc);
     for i in 0..entries.len() {
-        let judged = answer_interchange(by, findings, batch, &entries[i], files, headers)?;
+        let (sender, entry) = (senders[i], &entries[i]);
+        let judged = answer_interchange(by, findings, batch, sender, entry, files, headers)?;
         interchanges.push(judged)?;
     }
     Ok(interchanges)
 }
 
-/// Answers interchanges by what was found out about them, after the acknowledgments in `sent`.
+/// Answers interchanges from these `senders` by what was `found` out at their places, after the acknowledgments in `sent`.
 pub(crate) fn answer_entries<'i, 'a, W: GroupReporters>(
     by: &ReportedBy<'_, W>,
     batch: &Batch<'_, 'a>,
     entries: &'i [IndexedInterchange<'a>],
+    senders: &[Option<usize>],
     found: Vec<Finding<'a>>,
     sent: Vec<Acknowledgments>,
 ) -> Result<CheckedText<'i, 'a>, NoMemory>
     requires ready { W.can_report by.now.writers.now }
     requires spans { All (λ e. HasSpans batch.now.text.now e.interchange) entries.now }
+    requires senders { senders.now ≡ senders_of batch.now.setup.now entries.now }
     requires found { AllZip IsFound (asked_of batch.now.text.now batch.now.setup.now entries.now) found.items }
     requires count { length sent.items ≡ length batch.now.setup.now.partners }
     requires room { CanCount (length entries.now) sent.items }
@@ -146,14 +156,14 @@ pub(crate) fn answer_entries<'i, 'a, W: GroupReporters>(
     let mut made = no_headers(by.alloc, batch.setup)?;
     let headers = made.as_mut_slice();
     let mut findings = Findings::new(found);
-    let interchanges = answer_each(by, &mut findings, batch, entries, files, headers)?;
+    let interchanges = answer_each(by, &mut findings, batch, senders, entries, files, headers)?;
     Ok(CheckedText {
         interchanges,
         acknowledgments,
     })
 }
 
-/// Answers a text by what was found out about it, one interchange after another, after the acknowledgments in `sent`; `writers` writes
+/// Answers a text by what was `found` out about it, one interchange after another, after the acknowledgments in `sent`; `writers` writes
 /// the 999s of each interchange.
 pub(crate) fn answer_text<'i, 'a, W: GroupReporters>(
     alloc: Global,
@@ -161,12 +171,12 @@ pub(crate) fn answer_text<'i, 'a, W: GroupReporters>(
     setup: &'a Setup,
     at: &At,
     index: &'i Index<'a>,
-    found: Vec<Finding<'a>>,
+    found: FoundRows<'a>,
     sent: Vec<Acknowledgments>,
 ) -> Result<CheckedText<'i, 'a>, NoMemory>
     requires ready { W.can_report writers.now }
     requires spans { All (λ e. HasSpans index.now.text e.interchange) index.now.entries }
-    requires found { AllZip IsFound (asked_of index.now.text setup.now index.now.entries) found.items }
+    requires found { AreFoundRows index.now.text setup.now index.now.entries found }
     requires sent { HaveRoom setup.now at.now (length index.now.entries) sent.items }
     ensures { IfOk result (λ c. IsCheckedBehind index.entry.now.text setup.entry.now at.now index.entry.now.entries
         c.interchanges.items sent.items c.acknowledgments.items) }
@@ -174,7 +184,15 @@ pub(crate) fn answer_text<'i, 'a, W: GroupReporters>(
     let by = ReportedBy { alloc, writers };
     let text = index.text();
     let batch = Batch { setup, at, text };
-    answer_entries(&by, &batch, index.interchanges(), found, sent)
+    let FoundRows { senders, findings } = found;
+    answer_entries(
+        &by,
+        &batch,
+        index.interchanges(),
+        senders.as_slice(),
+        findings,
+        sent,
+    )
 }
 
 /// Checks the sets of a text by the guides of their senders and answers them: each interchange of the settled index, in their
@@ -198,20 +216,20 @@ pub fn check_text<'i, 'a, W: ReportWriters>(
     answer_found(alloc, writers, setup, at, index, found, sent)
 }
 
-/// Answers a text by `found`, what was found out about each place of the index, in their order: the same as `check_text`, which finds
-/// it out itself. The only error is out of memory.
+/// Answers a text by `found`, the sender of each interchange of the `index` and what was found out at each of its places, in their order:
+/// the same as `check_text`, which finds it out itself. The only error is out of memory.
 pub fn answer_found<'i, 'a, W: ReportWriters>(
     alloc: Global,
     writers: &W,
     setup: &'a Setup,
     at: &At,
     index: &'i Index<'a>,
-    found: Vec<Finding<'a>>,
+    found: FoundRows<'a>,
     sent: Vec<Acknowledgments>,
 ) -> Result<CheckedText<'i, 'a>, NoMemory>
     requires ready { W.can_report writers.now }
     requires spans { All (λ e. HasSpans index.now.text e.interchange) index.now.entries }
-    requires found { AllZip IsFound (asked_of index.now.text setup.now index.now.entries) found.items }
+    requires found { AreFoundRows index.now.text setup.now index.now.entries found }
     requires sent { HaveRoom setup.now at.now (length index.now.entries) sent.items }
     ensures { IfOk result (λ c. IsCheckedBehind index.entry.now.text setup.entry.now at.now index.entry.now.entries
         c.interchanges.items sent.items c.acknowledgments.items) }

@@ -1,39 +1,39 @@
 ghost use Rattle.std.specs.Prelude.{length, IfOk};
-ghost use Rattle.std.specs.List.{All, AllZip};
+ghost use Rattle.std.specs.List.{All};
 ghost use Rattle.env_index.specs.Words.{HasSpans};
-ghost use Rattle.set_answers.specs.Asked.{IsFound, asked_of};
 ghost use Rattle.set_answers.specs.CheckedText.{HaveRoom, IsCheckedBehind};
+ghost use Rattle.set_answers.specs.FoundRows.{AreFoundRows};
 
 use crate::batch::Batch;
 use crate::files::Acknowledgments;
 use crate::halving::{FEWEST, Part, answer_by};
 use crate::reports::GroupReporters;
+use crate::rows::FoundRows;
 use crate::walk::{CheckedText, answer_text};
 use env_index::Index;
 use hub_kinds::NoMemory;
 use job_pool::{ManyThreads, OneThread};
 use moment::At;
 use partner_setup::Setup;
-use set_check::Finding;
 use std::alloc::Global;
 use std::thread::Threads;
 
 /// Who answers a batch of which all was found out before, and writes its acknowledgments: one thread, or many.
 pub trait ReportWriters: GroupReporters {
-    /// Answers each interchange of the settled index by what was found out about each place of the index, in their order, and writes
-    /// the acknowledgments after those that were sent before (X12.5, TA1; 999 guide, 005010X231). The only error is out of memory.
+    /// Answers each interchange of the settled `index` by its sender and by what was found out at each of its places (`found`), in their
+    /// order, and writes the acknowledgments after those in `sent` (X12.5, TA1; 999 guide, 005010X231). The only error is out of memory.
     fn answer_found<'i, 'a>(
         &self,
         alloc: Global,
         setup: &'a Setup,
         at: &At,
         index: &'i Index<'a>,
-        found: Vec<Finding<'a>>,
+        found: FoundRows<'a>,
         sent: Vec<Acknowledgments>,
     ) -> Result<CheckedText<'i, 'a>, NoMemory>
         requires ready { Self.can_report self.now }
         requires spans { All (λ e. HasSpans index.now.text e.interchange) index.now.entries }
-        requires found { AllZip IsFound (asked_of index.now.text setup.now index.now.entries) found.items }
+        requires found { AreFoundRows index.now.text setup.now index.now.entries found }
         requires sent { HaveRoom setup.now at.now (length index.now.entries) sent.items }
         ensures { IfOk result (λ c. IsCheckedBehind index.entry.now.text setup.entry.now at.now index.entry.now.entries
             c.interchanges.items sent.items c.acknowledgments.items) };
@@ -46,7 +46,7 @@ impl ReportWriters for OneThread {
         setup: &'a Setup,
         at: &At,
         index: &'i Index<'a>,
-        found: Vec<Finding<'a>>,
+        found: FoundRows<'a>,
         sent: Vec<Acknowledgments>,
     ) -> Result<CheckedText<'i, 'a>, NoMemory> {
         answer_text(alloc, self, setup, at, index, found, sent)
@@ -60,7 +60,7 @@ impl<'r, R: Threads + Sync> ReportWriters for ManyThreads<'r, R> {
         setup: &'a Setup,
         at: &At,
         index: &'i Index<'a>,
-        found: Vec<Finding<'a>>,
+        found: FoundRows<'a>,
         sent: Vec<Acknowledgments>,
     ) -> Result<CheckedText<'i, 'a>, NoMemory> {
         let entries = index.interchanges();
@@ -69,10 +69,12 @@ impl<'r, R: Threads + Sync> ReportWriters for ManyThreads<'r, R> {
         }
         let text = index.text();
         let batch = Batch { setup, at, text };
+        let FoundRows { senders, findings } = found;
         let part = Part {
             batch: &batch,
             entries,
-            found,
+            senders: senders.as_slice(),
+            found: findings,
             sent,
         };
         answer_by(self.rt, alloc, part, self.workers)

@@ -1,7 +1,10 @@
 -- What the jobs of an index are made by may be shared between threads, and the jobs may go to another thread: in one step for the types
 -- that hold them, since a `search` that goes down through a setup and its guides runs out of steps.
+use denote.Plain.{UInt}
 use denote.Ref.{NamedLft}
 use denote.Param.Send.{IsSend, IsSync, sendable}
+use mir.Syntax.{w64}
+use Rattle.std.specs.contracts.option.Option as option
 use Rattle.env_index.specs.contracts.index.IndexedInterchange as entry
 use Rattle.guide_fast.proofs.ForAbove.{fast_sync}
 use Rattle.guide_tree.proofs.node.Loop.TheSendSync as loop
@@ -39,6 +42,9 @@ setup_sync = search (guide_sync, maps.crosses, crosses, sendable) depth 60 fits 
 
 pub guides_sync : (κ : NamedLft) → IsSync (guides.the_field κ).row
 guides_sync κ = search (setup_sync, fast_sync, maps.crosses, crosses, sendable) depth 60 fits 20000
+
+pub sender_sync : IsSync (option.the_row (UInt w64))
+sender_sync = search (crosses, sendable) depth 60 fits 20000
 
 pub entry_sync : (κ : NamedLft) → IsSync (entry.the_field κ).row
 entry_sync κ = search (crosses, sendable) depth 60 fits 20000

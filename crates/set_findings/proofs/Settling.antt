@@ -2,9 +2,9 @@
 use Rattle.std.proofs.Common.{◌≡◌, ℕ, List, [], ◌∷◌, Option, length, refl, ap, arith}
 use Rattle.hub_kinds.specs.declared.interchange.InterchangeFault.{InterchangeFault}
 use Rattle.env_index.specs.Words.{IndexEntry, IndexValue, settled, with_fault, with_faults}
-use Rattle.partner_setup.specs.Setup.{SetupValue}
+use Rattle.partner_setup.specs.Setup.{SetupValue, sender_of}
 use Rattle.set_answers.specs.Seen.{is_among}
-use Rattle.set_answers.specs.Settled.{faults_with, interchange_key_of, keys_with, fault_alone}
+use Rattle.set_answers.specs.Settled.{faults_with, interchange_key_of, keys_with, fault_alone, senders_of}
 use Rattle.set_findings.specs.Alone.{AreSettledBy, faults_alone, index_alone}
 
 pub settled_by_numbers : (setup : SetupValue) (numbers : List (List ℕ)) (es : List IndexEntry)
@@ -42,3 +42,11 @@ pub settled_twice : (setup : SetupValue) (index : IndexValue) (fs : List (Option
     → settled (index_alone setup index) fs ≡ settled index fs
 settled_twice setup index fs same =
     ap (λ (l : List IndexEntry). record { text = index.text; entries = l; outside = index.outside }) (twice setup index.entries fs same)
+
+-- a fault changes no sender
+pub senders_kept : (setup : SetupValue) (es : List IndexEntry) (fs : List (Option InterchangeFault))
+    → senders_of setup (with_faults es fs) ≡ senders_of setup es
+senders_kept setup [] fs = refl
+senders_kept setup (e ∷ es) [] = refl
+senders_kept setup (e ∷ es) (f ∷ fs) =
+    ap (λ (l : List (Option ℕ)). sender_of setup e.interchange.header ∷ l) (senders_kept setup es fs)

@@ -1,14 +1,11 @@
 -- X12.5, interchange: the index of a text once it is settled with the faults 1 to 8, before first uses of numbers are known (own).
-use Rattle.std.specs.Prelude.{◌≡◌, Bool, List, map, Option}
+use Rattle.std.specs.Prelude.{◌≡◌, Bool, List, Option}
 use Rattle.std.specs.List.{AllZip}
 use Rattle.hub_kinds.specs.declared.interchange.InterchangeFault.{InterchangeFault}
 use Rattle.env_index.specs.Words.{IndexEntry, IndexValue, settled, with_faults}
 use Rattle.partner_setup.specs.Setup.{SetupValue}
 use Rattle.set_answers.specs.Settled.{fault_alone, fault_if_earlier}
-
--- the least of the faults 1 to 8 of each
-abbrev pub faults_alone : SetupValue → List IndexEntry → List (Option InterchangeFault)
-faults_alone setup es = map (fault_alone setup) es
+pub use Rattle.set_answers.specs.Settled.{faults_alone}
 
 abbrev pub entries_alone : SetupValue → List IndexEntry → List IndexEntry
 entries_alone setup es = with_faults es (faults_alone setup es)

@@ -12,7 +12,7 @@ use env_index::Index;
 use job_pool::PoolFault;
 use number_register::Seen;
 use partner_setup::Setup;
-use set_check::Finding;
+use set_answers::FoundRows;
 use std::alloc::Global;
 use std::sync::Wait;
 use std::thread::Threads;
@@ -24,8 +24,8 @@ use worker_pool::Gate;
 pub struct FoundText<'a> {
     /// Its index, settled with the faults 1 to 9.
     pub index: Index<'a>,
-    /// What was found out at each place of the interchanges that have none of the faults 1 to 8, in the order of places.
-    pub findings: Vec<Finding<'a>>,
+    /// Who sent each of its interchanges, and what was found out at each of their places.
+    pub rows: FoundRows<'a>,
 }
 
 /// What is found of a text that is after others.
@@ -33,22 +33,18 @@ pub struct FoundText<'a> {
 pub struct FoundAfter<'a> {
     /// Its index, settled with the faults 1 to 9.
     pub index: Index<'a>,
-    /// What was found out at each place of the interchanges that have none of the faults 1 to 8, in the order of places.
-    pub findings: Vec<Finding<'a>>,
+    /// Who sent each of its interchanges, and what was found out at each of their places.
+    pub rows: FoundRows<'a>,
     /// The numbers that are seen after the text.
     pub numbers: Seen,
 }
 
 fn without_numbers<'a>(found: FoundAfter<'a>) -> FoundText<'a>
     ensures index { result.index ≡ found.entry.index }
-    ensures findings { result.findings.items ≡ found.entry.findings.items }
+    ensures rows { result.rows ≡ found.entry.rows }
 {
-    let FoundAfter {
-        index,
-        findings,
-        ..
-    } = found;
-    FoundText { index, findings }
+    let FoundAfter { index, rows, .. } = found;
+    FoundText { index, rows }
 }
 
 /// Finds out by workers what is asked about a text of at most `LONGEST_TEXT` bytes before it is answered: its index, how each set is
@@ -100,21 +96,26 @@ pub fn find_out_after<'g: 'a, 'a, G: Gate + Sync, R: Threads + Wait + Clock + Sy
     let Ok(settled) = settle_after(alloc, setup, seen, &mut index) else {
         return Err(PoolFault::NoMemory);
     };
-    let SettledFaults { faults, numbers } = settled;
+    let SettledFaults {
+        senders,
+        faults,
+        numbers,
+    } = settled;
     let findings = worked_out(
         rt,
         alloc,
-        setup,
         guides,
         &index,
+        senders.as_slice(),
         faults.as_slice(),
         workers,
         gate,
     )?;
     index.settle(faults.as_slice());
+    let rows = FoundRows { senders, findings };
     Ok(FoundAfter {
         index,
-        findings,
+        rows,
         numbers,
     })
 }

@@ -10,16 +10,15 @@
 //! - `FastGuides::of` compiles each guide of a setup, in their order;
 //! - `FastGuides::guide_of` answers the compiled guide that the setup has for a partner's GS01, GS08 and ST01, and none where it has
 //!   none;
-//! - `faults_alone` gives each interchange of an index the least of its faults 1 to 8;
-//! - `settle_after` settles an index with these, gives the faults 1 to 9 by the numbers that were seen in earlier batches
-//!   (`number_register::Seen`), and adds those of its interchange places;
-//! - `check_jobs` gives one job for each place of an index settled with the faults 1 to 8, in the order of places: at a set's place its
-//!   check, where it is, by its sender's guide for its GS01, GS08 and ST01;
+//! - `settle_after` settles an index with the faults 1 to 8, gives the senders, and the faults 1 to 9 by the numbers that were seen in
+//!   earlier batches (`number_register::Seen`), and adds those of its interchange places;
+//! - `check_jobs` gives by the senders one job for each place of an index settled with the faults 1 to 8, in the order of places: at a
+//!   set's place its check, where it is, by its sender's guide for its GS01, GS08 and ST01;
 //! - `tell_each` goes once through the rows that the jobs gave. It says in each whether an earlier place has the place's number: of a
 //!   group and a set exactly if the first use of the number is an earlier place, of an interchange if it has the fault 9. Once all jobs
 //!   are done (`worked_out`), the rows are just what is asked before the text is answered;
-//! - `find_out` gives the index of the text, settled with the faults 1 to 9, and to each question that is asked before the text is answered
-//!   its answer, in the order of places;
+//! - `find_out` gives the index of the text, settled with the faults 1 to 9, the sender of each interchange, and to each question that is
+//!   asked before the text is answered its answer, in the order of places;
 //! - `find_out_after` gives the same where interchanges come before the text, by their numbers, and the numbers after it. Neither names a
 //!   cut, a worker or a gate: whatever they are, the answer is the same, or a refusal where memory or a thread is refused.
 //!

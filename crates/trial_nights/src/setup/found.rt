@@ -1,10 +1,11 @@
 //! Texts that are answered by what was found out about their sets beforehand: their answer is that of `check_text`, which checks
 //! each set itself.
 ghost use Rattle.std.specs.Prelude.{◌≡◌, ◌∷◌, [], None, Some, false, IfOk};
-ghost use Rattle.std.specs.List.{All, AllZip};
+ghost use Rattle.std.specs.List.{All};
 ghost use Rattle.std.specs.Option.{option_copied};
 ghost use Rattle.std.specs.Str.{bytes_eq};
-ghost use Rattle.set_answers.specs.Asked.{IsFound, asked_of};
+ghost use Rattle.set_answers.specs.Asked.{IsFound};
+ghost use Rattle.set_answers.specs.FoundRows.{AreFoundRows};
 ghost use Rattle.env_index.specs.Words.{HasSpans};
 ghost use Rattle.set_check.specs.declared.finding.Finding.{Finding};
 ghost use Rattle.x12_segs.specs.Words.{IsSetSpan, element_of};
@@ -17,7 +18,9 @@ use job_pool::OneThread;
 use moment::At;
 use night_report::report_text;
 use partner_setup::Setup;
-use set_answers::{CheckedText, answer_found, check_text, no_acknowledgments, settled_faults};
+use set_answers::{
+    CheckedText, FoundRows, answer_found, check_text, no_acknowledgments, settled_faults,
+};
 use set_check::{Finding, check_set};
 use std::alloc::Global;
 use std::test::Fail;
@@ -85,27 +88,27 @@ fn has_number_of(set: &SetEnvelope, other: &SetEnvelope) -> bool
     set.header.element(2) == other.header.element(2)
 }
 
-/// What is found out about an interchange, its group and its two sets.
+/// What is found out about an interchange from `sender`, its group and its two sets.
 fn listed<'a>(
     alloc: Global,
+    sender: usize,
     one: Finding<'a>,
     other: Finding<'a>,
-) -> Result<Vec<Finding<'a>>, NoMemory>
-    ensures { IfOk result (λ found.
+) -> Result<FoundRows<'a>, NoMemory>
+    ensures senders { IfOk result (λ found. found.senders.items ≡ Some sender ∷ []) }
+    ensures findings { IfOk result (λ found.
         let new : Finding = record { number = 0; place = record { isa = 1; gs = 0; st = 0 }; checked = None; earlier = false } in
-        found.items ≡ new ∷ new ∷ one.entry ∷ other.entry ∷ []) }
+        found.findings.items ≡ new ∷ new ∷ one.entry ∷ other.entry ∷ []) }
 {
-    Ok(vec![in alloc; new_place(), new_place(), one, other]?)
+    let senders = vec![in alloc; Some(sender)]?;
+    let findings = vec![in alloc; new_place(), new_place(), one, other]?;
+    Ok(FoundRows { senders, findings })
 }
 
 /// What is found out about an index of one interchange, with one group of two sets.
-fn findings<'a>(
-    alloc: Global,
-    setup: &'a Setup,
-    index: &Index<'a>,
-) -> Result<Vec<Finding<'a>>, Fail>
+fn findings<'a>(alloc: Global, setup: &'a Setup, index: &Index<'a>) -> Result<FoundRows<'a>, Fail>
     requires { All (λ e. HasSpans index.now.text e.interchange) index.now.entries }
-    ensures { IfOk result (λ found. AllZip IsFound (asked_of index.now.text setup.entry.now index.now.entries) found.items) }
+    ensures { IfOk result (AreFoundRows index.now.text setup.entry.now index.now.entries) }
 {
     let entries = index.interchanges();
     if entries.len() != 1 {
@@ -133,7 +136,7 @@ fn findings<'a>(
     let guide = setup.guide_of(sender, id, version, second.header.element(1));
     let earlier = has_number_of(&second, &first);
     let other = set_found(alloc, index.text(), second.span(delims), guide, earlier)?;
-    Ok(listed(alloc, one, other)?)
+    Ok(listed(alloc, sender, one, other)?)
 }
 
 fn expect_bytes(found: &[u8], wanted: &[u8]) -> Result<(), Fail> {
@@ -188,20 +191,20 @@ fn checked<'i, 'a>(
     check_text(alloc, &OneThread, setup, at, index, none)
 }
 
-/// Answers it by what was found out about its places, after no acknowledgments.
+/// Answers it by what was found out about it and its places, after no acknowledgments.
 fn answered<'i, 'a>(
     alloc: Global,
     setup: &'a Setup,
     at: &At,
     index: &'i Index<'a>,
-    places: Vec<Finding<'a>>,
+    rows: FoundRows<'a>,
 ) -> Result<CheckedText<'i, 'a>, NoMemory>
     requires spans { All (λ e. HasSpans index.now.text e.interchange) index.now.entries }
-    requires found { AllZip IsFound (asked_of index.now.text setup.now index.now.entries) places.items }
+    requires found { AreFoundRows index.now.text setup.now index.now.entries rows }
 {
     let _ = index.interchanges();
     let none = no_acknowledgments(alloc, setup)?;
-    answer_found(alloc, &OneThread, setup, at, index, places, none)
+    answer_found(alloc, &OneThread, setup, at, index, rows, none)
 }
 
 /// Answers the text of a settled index both ways.
@@ -213,8 +216,8 @@ fn expect_one_answer<'i, 'a>(
     requires { All (λ e. HasSpans index.now.text e.interchange) index.now.entries }
 {
     let at = At::read(b"202603011530").ok_or("no moment")?;
-    let places = findings(alloc, setup, index)?;
-    let found = answered(alloc, setup, &at, index, places)?;
+    let rows = findings(alloc, setup, index)?;
+    let found = answered(alloc, setup, &at, index, rows)?;
     let wanted = checked(alloc, setup, &at, index)?;
     expect_report(alloc, setup, &found, &wanted)?;
     expect_acknowledgments(&found, &wanted)

@@ -1,4 +1,4 @@
-use Rattle.std.proofs.Common.{◌≡◌, ℕ, ◌++◌, List, Option, Some, take, refl, ap, subst, ◌∙◌}
+use Rattle.std.proofs.Common.{◌≡◌, ℕ, ◌++◌, ◌∷◌, [], List, Option, Some, take, refl, sym, ap, subst, ◌∙◌}
 use Rattle.std.specs.Prelude.{slice_get}
 use Rattle.std.specs.List.{AllZip}
 use Rattle.std.proofs.lemmas.List.{take_all}
@@ -8,7 +8,8 @@ use Rattle.partner_setup.specs.Setup.{sender_of}
 use Rattle.set_check.specs.declared.finding.Finding.{Finding}
 use Rattle.set_answers.specs.Asked.{Asked, IsFound, asked_of, entry_asked_by, has_places}
 use Rattle.set_answers.proofs.Asking.{entries_up_to}
-use Rattle.set_answers.proofs.Growing.{at_index}
+use Rattle.set_answers.specs.Settled.{senders_of}
+use Rattle.set_answers.proofs.Growing.{at_index, map_snoc, take_one_more}
 use Rattle.set_answers.proofs.spot.find_each.Goals as goal
 
 pub find_interchange-requires : goal.find_interchange-requires
@@ -31,10 +32,18 @@ loop-i-preserved c =
     let new : List Finding = c.find_interchange.new.found.items in
     let found = subst (λ (s : Option ℕ). AllZip IsFound (asked_of text setup (take i entries)
     ++ entry_asked_by text setup e (has_places e.fault) s) new) sender
-    (c.in_ok-find_interchange.ensures (asked_of text setup (take i entries)) c.loop-i.invariant) in
-    subst (λ (l : List Asked). AllZip IsFound l new) (entries_up_to text setup entries i e there) found
+    (c.in_ok-find_interchange.ensures (asked_of text setup (take i entries)) c.loop-i.invariant.1) in (
+      c.in_ok-push.ensures.items
+          ∙ (λ j. c.loop-i.invariant.0 j ++ sender j ∷ [])
+          ∙ sym (ap (senders_of setup) (take_one_more entries i e there)
+          ∙ map_snoc (λ (x : IndexEntry). sender_of setup x.interchange.header) (take i entries) e),
+      subst (λ (l : List Asked). AllZip IsFound l new) (entries_up_to text setup entries i e there) found,
+    )
 
 pub returns : goal.returns
-returns c =
-    subst (λ (es : List IndexEntry). AllZip IsFound (asked_of c.args.text.now c.args.setup.now es) c.loop-i.found.items)
-    (take_all c.loop-i.i c.args.entries.now c.loop-i-test.false) c.loop-i.invariant
+returns c = record {
+  senders = c.loop-i.invariant.0 ∙ ap (senders_of c.args.setup.now) (take_all c.loop-i.i c.args.entries.now c.loop-i-test.false);
+  findings =
+      subst (λ (es : List IndexEntry). AllZip IsFound (asked_of c.args.text.now c.args.setup.now es) c.loop-i.findings.items)
+      (take_all c.loop-i.i c.args.entries.now c.loop-i-test.false) c.loop-i.invariant.1;
+}

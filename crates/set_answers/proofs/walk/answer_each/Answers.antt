@@ -1,14 +1,15 @@
-use Rattle.std.proofs.Common.{◌≡◌, ◌≤◌, ℕ, ◌+◌, drop, List, [], ◌∷◌, ◌++◌, Some, length, refl, sym, ap, subst, ◌∙◌, arith}
+use Rattle.std.proofs.Common.{◌≡◌, ◌≤◌, ℕ, ◌+◌, drop, List, [], ◌∷◌, ◌++◌, Option, None, Some, length, refl, sym, ap, subst, ◌∙◌, arith}
 use Rattle.std.proofs.Common.{length-append}
 use Rattle.std.specs.Prelude.{slice_get}
 use Rattle.std.specs.List.{AllZip}
 use Rattle.std.proofs.lemmas.Option.{slice_get_read}
 use Rattle.env_index.specs.Words.{IndexEntry, HasSpans}
+use Rattle.partner_setup.specs.Setup.{sender_of}
 use Rattle.answered_sets.specs.Judged.{JudgedValue}
 use Rattle.set_answers.specs.Asked.{IsFound, asked_of}
 use Rattle.set_answers.specs.CheckedText.{CheckedInterchange, IsCheckedAs, judged}
 use Rattle.set_answers.proofs.Acknowledging.{sent_both, sent_none}
-use Rattle.set_answers.proofs.Growing.{at_index, map_snoc}
+use Rattle.set_answers.proofs.Growing.{at_index, map_snoc, mapped_at}
 use Rattle.set_answers.proofs.Pairing.{no_pairs, pairs_more}
 use Rattle.set_answers.proofs.Starting.{room_after}
 use Rattle.set_answers.proofs.Taking.{drop_one_more}
@@ -31,6 +32,7 @@ answer_interchange-requires g c =
     let setup = batch.setup.now in
     let text : List ℕ = batch.text.now in
     let entries : List IndexEntry = c.args.entries.now in
+    let senders : List (Option ℕ) = c.args.senders.now in
     let i : ℕ = c.loop-i.i in
     let done = c.loop-i.invariant in
     let there : slice_get entries i ≡ Some c.index-entries-i.result =
@@ -39,6 +41,8 @@ answer_interchange-requires g c =
     record {
       ready = c.requires.ready;
       spans = at_index (λ (e : IndexEntry). HasSpans text e.interchange) entries i c.index-entries-i.result there c.requires.spans;
+      sender = mapped_at (λ (e : IndexEntry). sender_of setup e.interchange.header) entries senders i c.index-entries-i.result None
+          c.requires.senders there;
       found = (
         asked_of text setup (drop (i + 1) entries),
         subst (λ (es : List IndexEntry). AllZip IsFound (asked_of text setup es) c.loop-i.findings)

@@ -22,6 +22,7 @@ answer_each-requires g c =
     record {
       ready = c.requires.ready;
       spans = c.requires.spans;
+      senders = c.requires.senders;
       found = found;
       count = count;
       room = room;

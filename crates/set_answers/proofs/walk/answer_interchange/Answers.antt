@@ -1,8 +1,7 @@
-use Rattle.std.proofs.Common.{◌≡◌, ℕ, List, Option, refl, sym, ap, ◌∙◌}
+use Rattle.std.proofs.Common.{◌≡◌, ℕ, List, Option, refl, sym}
 use Rattle.std.proofs.lemmas.Result.{IfOk-weaker}
 use Rattle.hub_kinds.specs.declared.interchange.InterchangeFault.{InterchangeFault}
 use Rattle.env_index.specs.Words.{InterchangeEntry}
-use Rattle.partner_setup.specs.Setup.{sender_of}
 use Rattle.answered_sets.specs.Answered.{ta1_note}
 use Rattle.set_answers.specs.declared.answered.AnsweredGroup.{AnsweredGroup}
 use Rattle.set_answers.specs.Acknowledgments.{Acknowledgment}
@@ -19,16 +18,14 @@ put_together x i fault header told groups a is at faulty headed noted answered =
 pub returns-clause-answered : goal.returns-clause-answered
 returns-clause-answered g c =
     let groups : List (Option AnsweredGroup) = c.in_ok-groups.groups.items in
-    let x : CheckedInterchange = record { entry = c.args.entry.now; sender = c.sender_of-sender.result; groups = groups } in
-    let sender = c.sender_of-sender.ensures.sender ∙ ap (λ (h : List ℕ). sender_of c.args.batch.now.setup.now h)
-    (c.header.ensures ∙ ap (λ (i : InterchangeEntry). i.header) c.interchange-interchange.ensures.value) in
+    let x : CheckedInterchange = record { entry = c.args.entry.now; sender = c.args.sender; groups = groups } in
     let acknowledgment : acknowledgment_of x ≡ c.new-acknowledgment.result =
     put_together x c.interchange-interchange.result.now c.fault.result _ _ _ c.new-acknowledgment.result c.new-acknowledgment.ensures
-    c.interchange-interchange.ensures.value c.fault.ensures c.header-2.ensures c.ta1_note-note.ensures c.as_slice.ensures.value in
+    c.interchange-interchange.ensures.value c.fault.ensures c.header.ensures c.ta1_note-note.ensures c.as_slice.ensures.value in
     IfOk-weaker c.judge.result _ _
     (λ j is. record {
       answered = x;
-      is = record { entry = refl; sender = sender; groups = c.in_ok-groups.ensures.answers };
+      is = record { entry = refl; sender = c.requires.sender; groups = c.in_ok-groups.ensures.answers };
       judged = is x refl refl (sym c.as_slice-2.ensures.value);
       sent = c.in_ok-acknowledge.ensures.sent x refl acknowledgment;
     })

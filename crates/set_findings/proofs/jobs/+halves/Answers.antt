@@ -8,23 +8,23 @@ use Rattle.set_findings.specs.Jobs.{jobs_behind}
 use Rattle.set_findings.proofs.Adding.{jobs_joined}
 use Rattle.std.proofs.Crossing.{crosses}
 use denote.Param.Send.{param_send, sendable}
-use Rattle.set_findings.proofs.Crossing.{entry_sync, guides_sync, job_send, setup_sync}
+use Rattle.set_findings.proofs.Crossing.{entry_sync, guides_sync, job_send, sender_sync}
 use Rattle.set_findings.proofs.jobs.+halves.Lts-jobs_by as lts
 use Rattle.set_findings.proofs.jobs.+halves.Goals as goal
 
 pub join-first-requires-send-F : goal.join-first-requires-send-F
 join-first-requires-send-F g t c κs within =
-    param_send 1 (lts.arg-2-1 g.row.R g.R.laws g.R.Threads-dict κs)
-    (search (setup_sync, guides_sync, entry_sync, crosses, sendable) depth 60 fits 20000)
+    param_send 1 (lts.arg-3-1 g.row.R g.R.laws g.R.Threads-dict κs)
+    (search (sender_sync, guides_sync, entry_sync, crosses, sendable) depth 60 fits 20000)
 
 pub join-first-requires-send-A : goal.join-first-requires-send-A
 join-first-requires-send-A g t c κs within =
-    param_send 3 (lts.arg-2-3 g.row.R g.R.laws g.R.Threads-dict κs) (search (job_send, crosses, sendable) depth 60 fits 20000)
+    param_send 3 (lts.arg-3-3 g.row.R g.R.laws g.R.Threads-dict κs) (search (job_send, crosses, sendable) depth 60 fits 20000)
 
 pub returns : goal.returns
 returns g t c =
     let text : List ℕ = c.args.text.now in
-    let setup = c.args.setup.now in
+    let setup = c.args.guides.now in
     let before : ℕ = c.args.before in
     let low : List IndexEntry = c.split_at.result.0.now in
     let high : List IndexEntry = c.split_at.result.1.now in

@@ -17,14 +17,14 @@ use Rattle.set_findings.proofs.work.worked_out.Goals as goal
 pub check_jobs-requires-clause-sets : goal.check_jobs-requires-clause-sets
 check_jobs-requires-clause-sets g c κs within =
     let s = c.requires.settled in
-    subst (λ (i : IndexValue). All HasFewSets i.entries) (sym s.4) (few_sets s.0 c.args.setup.now s.1 s.2 s.3)
+    subst (λ (i : IndexValue). All HasFewSets i.entries) (sym s.4) (few_sets s.0 c.args.guides.now s.1 s.2 s.3)
 
 pub checks_by-requires-clause-spans : goal.checks_by-requires-clause-spans
 checks_by-requires-clause-spans g c κs within =
     let s = c.requires.settled in
     subst AreSpans (sym c.as_slice.ensures.value)
     (c.in-Ok.ensures.spans
-    (subst (λ (i : IndexValue). All (HasItsSpans i.text) i.entries) (sym s.4) (spans_alone s.0 c.args.setup.now s.1 s.2)))
+    (subst (λ (i : IndexValue). All (HasItsSpans i.text) i.entries) (sym s.4) (spans_alone s.0 c.args.guides.now s.1 s.2)))
 
 pub checks_by-requires-clause-places : goal.checks_by-requires-clause-places
 checks_by-requires-clause-places g c κs within =
@@ -44,7 +44,7 @@ tell_each-requires g c =
 
 pub returns : goal.returns
 returns g c text plain is settled by =
-    let setup = c.args.setup.now in
+    let setup = c.args.guides.now in
     let faults = c.args.faults.now in
     let done = c.in_ok-done.field-0.done.items in
     let findings = c.tell_each.new.findings in

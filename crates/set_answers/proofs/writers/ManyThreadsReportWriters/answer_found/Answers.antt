@@ -7,8 +7,8 @@ pub answer_by-requires : goal.answer_by-requires
 answer_by-requires g c = (
   c.requires.ready,
   can_answer c.args.index.now.text c.text-text.result.now c.args.setup.now c.args.at.now c.args.index.now.entries
-      c.interchanges-entries.result.now c.args.found.items c.args.sent.items c.text-text.ensures c.interchanges-entries.ensures.value
-      c.requires.spans c.requires.found c.requires.sent,
+      c.interchanges-entries.result.now c.args.found c.as_slice.result.now c.args.sent.items c.text-text.ensures
+      c.interchanges-entries.ensures.value c.as_slice.ensures.value c.requires.spans c.requires.found c.requires.sent,
 )
 
 pub returns : goal.returns

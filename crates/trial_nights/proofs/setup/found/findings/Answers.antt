@@ -17,6 +17,7 @@ use Rattle.set_answers.specs.Asked.{Asked, IsFound, asked_of, entry_asked, entry
 use Rattle.set_answers.specs.Asked.{interchange_asked, is_duplicate, set_asked, sets_asked}
 use Rattle.set_answers.specs.CheckedText.{sent_by}
 use Rattle.set_answers.specs.Seen.{is_among}
+use Rattle.set_answers.specs.Settled.{senders_of}
 use Rattle.set_check.specs.declared.finding.Finding.{Finding}
 use Rattle.set_answers.proofs.ForAbove.{at_index}
 use Rattle.trial_nights.proofs.setup.found.findings.Goals as goal
@@ -161,7 +162,10 @@ returns c =
     c.in_ok-other.other c.text-2.ensures (c.span-2.ensures ∙ ap (λ d. span_of d c.set-second.result) delims)
     (c.guide_of-guide-2.ensures ∙ guide_alike setup sender _ _ _ _ _ _ id version c.element-2.ensures.value)
     (c.has_number_of-earlier.ensures ∙ or_false _) c.in_ok-other.ensures in
-    subst (λ (found : List Finding). AllZip IsFound (asked_of text setup entries) found)
-    (sym c.in_ok-listed.ensures)
-    (all_found text setup entries e sender g c.set-first.result c.set-second.result c.in_ok-one.one c.in_ok-other.other single clear from
-    groups sets first second)
+    record {
+      senders = c.in_ok-listed.ensures.senders ∙ sym (ap (senders_of setup) single ∙ ap (λ (s : Option ℕ). s ∷ []) from);
+      findings =
+          subst (λ (found : List Finding). AllZip IsFound (asked_of text setup entries) found) (sym c.in_ok-listed.ensures.findings)
+          (all_found text setup entries e sender g c.set-first.result c.set-second.result c.in_ok-one.one c.in_ok-other.other single clear
+          from groups sets first second);
+    }
